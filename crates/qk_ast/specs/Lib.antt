@@ -1,0 +1,12 @@
+pub mod Characters
+pub mod Tokens
+pub mod JsxText
+pub mod Grammar
+pub mod Spelling
+pub mod Depth
+pub mod Tree
+pub mod Rules
+pub mod Derives
+pub mod First
+pub mod Faults
+pub mod Laws
