@@ -1,0 +1,5 @@
+//! The top call: all that the program does, from its words to its status, over a store and a sink that are handed in.
+#![tactic(auto)]
+
+mod script;
+mod words;
