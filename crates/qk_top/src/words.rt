@@ -1,4 +1,4 @@
-ghost use Rattle.std.specs.Prelude.{map, string_bytes, IfSome, IfNone, IsTrue, ◌↔◌};
+ghost use Rattle.std.specs.Prelude.{◌≡◌, map, string_bytes, IfSome, IfNone, IsTrue, ◌↔◌};
 ghost use Rattle.qk_top.specs.Words.{IsReplay, is_script_word};
 
 /// The script that the words name, where they are `replay SCRIPT`.

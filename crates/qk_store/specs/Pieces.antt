@@ -1,0 +1,11 @@
+-- What a sink was given.
+use Rattle.std.specs.Prelude.{◌≡◌, ℕ, Option, List, ◌++◌, take}
+use Rattle.std.specs.Option.{option_map}
+
+-- these bytes, and this piece behind them
+abbrev pub with_piece : List ℕ → List ℕ → List ℕ
+with_piece piece put = put ++ piece
+
+-- a front of the piece was appended, and bytes are told after as before
+abbrev pub AppendsFront : List ℕ → Option (List ℕ) → Option (List ℕ) → Type 0
+AppendsFront piece before after = (taken : ℕ) × (after ≡ option_map (with_piece (take taken piece)) before)

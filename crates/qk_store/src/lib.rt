@@ -1,0 +1,11 @@
+//! The outside of the framework: files by name, and a sink for printed bytes, as traits with a written meaning. Code above is proved once, over
+//! the traits; here stand the ones in memory, and the thin edge to a real folder and to standard output.
+#![tactic(auto)]
+
+mod found;
+mod sink;
+mod store;
+
+pub use found::{Found, Seen, StoreFault};
+pub use sink::{Sink, SinkFault};
+pub use store::Store;
