@@ -1,1 +1,4 @@
 mod Examples
+pub mod Words
+pub mod Listener
+pub mod Component
