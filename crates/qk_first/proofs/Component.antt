@@ -1,5 +1,5 @@
 -- What the component's function does at its mount and again.
-use Rattle.std.specs.Prelude.{◌≡◌, refl, ℕ, suc, ◌+◌, max, ℤ, Bool, true, false, List, [], ◌∷◌, ◌++◌, Option, Some, None, length, nat_le, codes}
+use Rattle.std.specs.Prelude.{◌≡◌, refl, ℕ, suc, ◌+◌, max, ℤ, pos, Bool, true, false, List, [], ◌∷◌, ◌++◌, Option, Some, None, length, nat_le, codes}
 use Rattle.std.proofs.Common.{ap, ◌∙◌, append-nil}
 use Rattle.qk_ast.specs.First.{First_attribute, Id, On_click}
 use Rattle.qk_ast.specs.declared.Jsx.{Jsx}
@@ -17,12 +17,16 @@ use Rattle.qk_meaning.specs.Running.{Running, Mode, Pure, At_site, Hooking, Outs
 use Rattle.qk_meaning.specs.Setting.{Entering, Setting, captures}
 use Rattle.qk_meaning.specs.Making.{made_function, made, made_markup}
 use Rattle.qk_meaning.specs.Evaluation.{entered, field_values, values, markup}
-use Rattle.qk_first.proofs.Words.{attribute_pairs, field_row, children, row, element, with_signal}
+use Rattle.qk_first.proofs.Words.{attribute_pairs, field_row, children, row, element, with_signal, without_signal}
 use Rattle.qk_first.proofs.Listener.{listener_code, value_in}
 
 -- the code of the component
 abbrev pub component_code : Text → Text → ℤ → Jsx → Code
 component_code file n k jsx = record { file = file; captures = []; task = false; params = []; body = with_signal n k jsx }
+
+-- the same without a signal
+abbrev pub bare_code : Text → Jsx → Code
+bare_code file jsx = record { file = file; captures = []; task = false; params = []; body = without_signal jsx }
 
 -- the attributes that the element has, where the listener has this site and the signal this address
 abbrev pub attribute_fields : Site → Text → List First_attribute → Fields
@@ -88,11 +92,11 @@ module _ (p : Program) (enter : Entering) (file n : Text) (site : Site) (own : s
   view tag shows attributes v = Elem (Element tag) None [] attributes (packed (child_values shows v))
 
   -- the element is made within the limits
-  record Makes (tag : Text) (shows : Bool) (attributes : Fields) : Type 0 where
-    no_fault : (v : ℤ) → markup_fault (Element tag) attributes (packed (child_values shows v)) ≡ None
-    makes_view : (v : ℤ) → Markup.element (Element tag) attributes (packed (child_values shows v)) ≡ view tag shows attributes v
-    light : (v : ℤ) → nat_le (weight (captures here) (view tag shows attributes v)) 65536 ≡ true
-    flat : (v : ℤ) → nat_le (depth (captures here) (view tag shows attributes v)) 32 ≡ true
+  pub record Makes (tag : Text) (shows : Bool) (attributes : Fields) : Type 0 where
+    pub no_fault : (v : ℤ) → markup_fault (Element tag) attributes (packed (child_values shows v)) ≡ None
+    pub makes_view : (v : ℤ) → Markup.element (Element tag) attributes (packed (child_values shows v)) ≡ view tag shows attributes v
+    pub light : (v : ℤ) → nat_le (weight (captures here) (view tag shows attributes v)) 65536 ≡ true
+    pub flat : (v : ℤ) → nat_le (depth (captures here) (view tag shows attributes v)) 32 ≡ true
 
   module _ (tag : Text) (shows : Bool) (attributes : List First_attribute) (makes : Makes tag shows (attribute_fields site n attributes))
       (fields : (v : ℤ) (log : List Loc) (lines : List Text) (turns : ℕ) (trace : List Happening) (hooking : Hooking)
@@ -121,3 +125,19 @@ module _ (p : Program) (enter : Entering) (file n : Text) (site : Site) (own : s
               (record { heap = Props end ∷ Signal (Int v) ∷ []; log = log; lines = lines; turns = turns; trace = (trace ++ Entered (At_site component) ∷ []) ++ reads_told shows (length log); locals = end; hooking = Again [] })
       again component arguments v log lines turns trace =
           rw (not_hook, hook_root, replaced_own Undefined (Ref 1), shows_markup v log lines turns (trace ++ Entered (At_site component) ∷ []) (Again []))
+
+  -- ---- without a signal
+
+  abbrev simply : List Object → List Loc → List Text → ℕ → List Happening → Hooking → Running
+  simply heap log lines turns trace hooking = record { heap = heap; log = log; lines = lines; turns = turns; trace = trace; locals = end; hooking = hooking }
+
+  module _ (tag : Text) (attributes : List First_attribute) (makes : Makes tag false (attribute_fields site n attributes))
+      (fields : (s : Running) → field_values (field_row (attribute_pairs n attributes)) here s ≡ Gives (attribute_fields site n attributes) s) where
+    makes_bare_element : (s : Running) → made_markup here (Tag.Element tag) (attribute_fields site n attributes) [] s ≡ Gives (view tag false (attribute_fields site n attributes) (pos 0)) s
+    makes_bare_element s = rw (makes.no_fault (pos 0)) (ap (λ (w : Value). made here w s) (makes.makes_view (pos 0)) ∙ rw (makes.light (pos 0), makes.flat (pos 0)))
+
+    pub stays : (component : Site) (arguments : List Value) (heap : List Object) (log : List Loc) (lines : List Text) (turns : ℕ) (trace : List Happening) (hooking : Hooking)
+        → entered (At_site component) (bare_code file (element false n tag attributes)) here end arguments (simply heap log lines (suc turns) trace hooking)
+        ≡ Gives (view tag false (attribute_fields site n attributes) (pos 0)) (simply heap log lines turns (trace ++ Entered (At_site component) ∷ []) hooking)
+    stays component arguments heap log lines turns trace hooking =
+        rw (fields (simply heap log lines turns (trace ++ Entered (At_site component) ∷ []) hooking), makes_bare_element (simply heap log lines turns (trace ++ Entered (At_site component) ∷ []) hooking))

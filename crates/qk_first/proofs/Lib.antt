@@ -2,3 +2,4 @@ mod Examples
 pub mod Words
 pub mod Listener
 pub mod Component
+pub mod Passes
