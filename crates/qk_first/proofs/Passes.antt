@@ -8,14 +8,15 @@ use Rattle.qk_meaning.specs.World.{Object, Props, Loc, Read, Hook, Instance, Wor
 use Rattle.qk_meaning.specs.Parts.{packed}
 use Rattle.qk_meaning.specs.Texts.{integer_text}
 use Rattle.qk_meaning.specs.Program.{Program}
-use Rattle.qk_meaning.specs.Doing.{Outcome, Gives, Doing, after, give, becomes, chosen}
-use Rattle.qk_meaning.specs.Running.{Running, Pure, At_site, Hooking, Outside, Mounting, Again, Happening, Entered}
+use Rattle.qk_meaning.specs.Doing.{Outcome, Gives, Doing, after, give, ◌>>◌, becomes, chosen, put_back}
+use Rattle.qk_meaning.specs.Running.{Running, Effect, Pure, At_site, Hooking, Outside, Mounting, Again, Happening, Entered}
 use Rattle.qk_meaning.specs.Evaluation.{entering}
 use Rattle.qk_meaning.specs.Trace.{own_reads}
 use Rattle.qk_meaning.specs.Readings.{app_of}
 use Rattle.qk_meaning.specs.Expansion.{Node, Tagged, Inside, Nodes, no_nodes, node, joined, text_nodes, Visit, expand_app, component_with, expand_item, view_with, wrapped, nothing_given, children_of}
-use Rattle.qk_meaning.specs.Tree.{tree, nodes_given, view_at}
-use Rattle.qk_meaning.specs.Session.{Session, world_of, session_in, nothing_yet, lines_in}
+use Rattle.qk_meaning.specs.Tree.{heard_by, tree, nodes_given, view_at}
+use Rattle.qk_meaning.specs.Session.{Session, world_of, session_in, nothing_yet, lines_in, runs}
+use Rattle.qk_meaning.specs.Item.{Block, Event, Limits, html_within_limits, block, event, heard, records_of, first_render, first_item, event_item}
 use Rattle.qk_meaning.specs.Execution.{Execution, execution, execute_again, mount, take_or_mount}
 use Rattle.qk_meaning.specs.Settling.{Spot, due_hook, first_due, is_quiet, pass, round, settled, settled_within}
 use Rattle.qk_first.proofs.Component.{child_values}
@@ -106,3 +107,71 @@ module _ (p : Program) (levels : ℕ) (component : Site) (app : app_of p ≡ Com
         ap (λ (o : Option Spot). round p levels (settled_within p levels rounds) o before) (none_due w reads v log lines)
         ∙ ap (λ (o : Outcome Session (Unit {0})). after o (λ u s. chosen (is_quiet (length log) s) (give tt) (settled_within p levels rounds) s)) (passes w reads v log lines turns trace executed mounted)
         ∙ ap (λ (b : Bool). chosen b (give tt) (settled_within p levels rounds) behind) (quiet (view v) (own_reads (happens (length log))) v log lines turns (trace ++ happens (length log)))
+
+    -- ---- blocks
+
+    module _ (text : ℤ → Text) (fits : (v : ℤ) (s : Running) → html_within_limits (nodes_of v) s ≡ Gives (text v) s) where
+      abbrev shows_block : Bool → ℤ → Block
+      shows_block found_none v = record { none = found_none; lines = []; html = text v }
+
+      shown_in : (v : ℤ) (log : List Loc) (reads : List Read) → tree (app_of p) (record { heap = Props end ∷ rest v; log = log; lines = []; instances = stood (view v) reads ∷ [] }) ≡ nodes_of v
+      shown_in v log reads = ap (λ (a : Shown). tree a (record { heap = Props end ∷ rest v; log = log; lines = []; instances = stood (view v) reads ∷ [] })) app ∙ shown_nodes log [] v reads
+
+      gives_block : (found_none : Bool) (v : ℤ) (log : List Loc) (turns : ℕ) (trace : List Happening) (reads : List Read) (executed : List Instance) (mounted : Bool)
+          → block p levels found_none (session v log [] turns trace (stood (view v) reads ∷ []) executed mounted)
+          ≡ Gives (shows_block found_none v) (session v log [] turns trace (stood (view v) reads ∷ []) executed mounted)
+      gives_block found_none v log turns trace reads executed mounted =
+          let w = session v log [] turns trace (stood (view v) reads ∷ []) executed mounted in
+          let next : Text → Doing Session Block = λ t. give (record { none = found_none; lines = []; html = t }) in
+          ap (λ (n : Nodes). after (runs (html_within_limits n) w) next) (shown_in v log reads)
+          ∙ ap (λ (o : Outcome Running Text). after (put_back (λ s. record w { running = s }) o) next) (fits v w.running)
+
+      -- ---- events
+
+      abbrev world : ℤ → List Loc → List Read → World
+      world v log reads = record { heap = Props end ∷ rest v; log = log; lines = []; instances = stood (view v) reads ∷ [] }
+
+      unheard : (e : Event) (v : ℤ) (log : List Loc) (reads : List Read) (turns : ℕ)
+          → heard_by e.kind e.id (nodes_of v) ≡ None
+          → event p levels e (session v log [] turns [] (stood (view v) reads ∷ []) [] false)
+          ≡ Gives (shows_block true v) (session v log [] turns [] (stood (view v) reads ∷ []) [] false)
+      unheard e v log reads turns unfound =
+          let w = session v log [] turns [] (stood (view v) reads ∷ []) [] false in
+          ap (λ (n : Nodes). heard p levels e (heard_by e.kind e.id n) w) (shown_in v log reads)
+          ∙ ap (λ (o : Option Value). heard p levels e o w) unfound
+          ∙ gives_block true v log turns [] reads [] false
+
+      -- the listener is called, and the session settles
+      heard_at : (e : Event) (f r : Value) (v u : ℤ) (log more : List Loc) (reads : List Read) (turns : ℕ) (trace : List Happening)
+          → heard_by e.kind e.id (nodes_of v) ≡ Some f
+          → entering p levels Effect [] f (records_of e) (run_in v log [] (suc (suc turns)) [] Outside) ≡ Gives r (run_in u more [] (suc turns) trace Outside)
+          → event p levels e (session v log [] (suc (suc turns)) [] (stood (view v) reads ∷ []) [] false)
+          ≡ Gives (shows_block false u) (session u more [] turns (trace ++ happens (length more)) (stood (view u) (own_reads (happens (length more))) ∷ []) [] false)
+      heard_at e f r v u log more reads turns trace found called =
+          let w = session v log [] (suc (suc turns)) [] (stood (view v) reads ∷ []) [] false in
+          ap (λ (n : Nodes). heard p levels e (heard_by e.kind e.id n) w) (shown_in v log reads)
+          ∙ ap (λ (o : Option Value). heard p levels e o w) found
+          ∙ ap (λ (o : Outcome Running Value). after (put_back (λ s. record w { running = s }) o) (λ a. ◌>>◌ (settled p levels) (block p levels false))) called
+          ∙ ap (λ (o : Outcome Session (Unit {0})). after o (λ a. block p levels false)) (settles (suc turns) (view v) reads u more [] turns trace [] false)
+          ∙ gives_block false u more turns (trace ++ happens (length more)) (own_reads (happens (length more))) [] false
+
+      -- ---- the first render
+
+      module _ (k : ℤ) (mounts : (turns : ℕ) → entering p levels Pure [] (Closure component end false) (Ref 0 ∷ [])
+          (record { heap = Props end ∷ []; log = []; lines = []; turns = suc turns; trace = []; locals = end; hooking = Mounting [] [] [] }) ≡ Gives (view k) (run_in k [] [] turns (happens 0) (Mounting [] [] hooks))) where
+        mounted_so : (turns : ℕ) → take_or_mount p levels (record { path = []; shown = Component component; fields = end }) (session_in nothing_yet (suc turns))
+            ≡ Gives (view k) (session k [] [] turns (happens 0) [] (stood (view k) (own_reads (happens 0)) ∷ []) true)
+        mounted_so turns = rw (mounts turns)
+
+        first_pass : (turns : ℕ) → pass p levels (session_in nothing_yet (suc turns)) ≡ Gives tt (session k [] [] turns (happens 0) (stood (view k) (own_reads (happens 0)) ∷ []) [] true)
+        first_pass turns =
+            ap (λ (a : Shown). after (expand_app (take_or_mount p levels) lines_in a (session_in nothing_yet (suc turns))) (λ nodes. becomes (λ s. record s { instances = s.executed; executed = [] }))) app
+            ∙ ap (λ (o : Outcome Session Nodes). after o (λ nodes. becomes (λ s. record s { instances = s.executed; executed = [] })))
+              (expands (take_or_mount p levels) lines_in k (session_in nothing_yet (suc turns)) (session k [] [] turns (happens 0) [] (stood (view k) (own_reads (happens 0)) ∷ []) true) (mounted_so turns))
+
+        renders : (turns : ℕ) → first_render p levels (session_in nothing_yet (suc (suc turns)))
+            ≡ Gives (shows_block false k) (session k [] [] turns (happens 0 ++ happens 0) (stood (view k) (own_reads (happens 0)) ∷ []) [] false)
+        renders turns =
+            ap (λ (o : Outcome Session (Unit {0})). after (after o (λ u s. chosen (is_quiet 0 s) (give tt) (settled_within p levels (suc (suc turns))) s)) (λ a. block p levels false)) (first_pass (suc turns))
+            ∙ ap (λ (o : Outcome Session (Unit {0})). after o (λ a. block p levels false)) (settles (suc turns) (view k) (own_reads (happens 0)) k [] [] turns (happens 0) [] true)
+            ∙ gives_block false k [] turns (happens 0 ++ happens 0) (own_reads (happens 0)) [] false
