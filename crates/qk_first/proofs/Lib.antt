@@ -1,1 +1,5 @@
 mod Examples
+pub mod Words
+pub mod Listener
+pub mod Component
+pub mod Passes
