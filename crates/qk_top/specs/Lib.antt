@@ -1,3 +1,5 @@
 pub mod Words
 pub mod Lines
 pub mod Script
+pub mod Shape
+pub mod Standing

@@ -2,4 +2,5 @@
 #![tactic(auto)]
 
 mod script;
+mod shape;
 mod words;
