@@ -1,2 +1,4 @@
+pub mod Shown
+pub mod Numbers
 pub mod Commands
 pub mod Scripts

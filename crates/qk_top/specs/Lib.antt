@@ -3,3 +3,4 @@ pub mod Lines
 pub mod Script
 pub mod Shape
 pub mod Standing
+pub mod Blocks

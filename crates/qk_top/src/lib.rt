@@ -1,6 +1,7 @@
 //! The top call: all that the program does, from its words to its status, over a store and a sink that are handed in.
 #![tactic(auto)]
 
+mod blocks;
 mod script;
 mod shape;
 mod words;
