@@ -3,3 +3,5 @@ pub mod Words
 pub mod Listener
 pub mod Component
 pub mod Passes
+pub mod Texts
+pub mod Listings
