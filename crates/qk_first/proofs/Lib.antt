@@ -5,3 +5,4 @@ pub mod Component
 pub mod Passes
 pub mod Texts
 pub mod Listings
+pub mod Trees
