@@ -6,3 +6,4 @@ pub mod Passes
 pub mod Texts
 pub mod Listings
 pub mod Trees
+pub mod Roots

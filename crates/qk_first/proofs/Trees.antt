@@ -18,8 +18,8 @@ use Rattle.qk_ast.specs.First.{First_text, First_attribute, Id, On_click, Shape,
 use Rattle.qk_meaning.specs.Value.{Text}
 use Rattle.qk_first.specs.Counter.{is_shown}
 use Rattle.qk_first.proofs.Words.{element_at, element, first_module}
-use Rattle.qk_first.proofs.Texts.{among, IsWord, letters_bytes, letters_decoded}
-use Rattle.qk_first.proofs.Listings.{Listing, nothing, id_only, click_only, id_click, click_id}
+use Rattle.qk_first.proofs.Texts.{among, left, word, IsWord, letters_bytes, letters_decoded}
+use Rattle.qk_first.proofs.Listings.{Listing, listing, nothing, id_only, click_only, id_click, click_id}
 
 -- a tag is an element's
 pub tag_is : (tag : Characters) → IsTrue (is_one_of tag first_tags) → tag_tree tag ≡ Tag.Element tag
@@ -74,3 +74,13 @@ written_module : (imported : Names) (n tag : Characters) (initial : Option Chara
 unfolding shape-the_row-Expr-0 hidden-the_row-Expr-0 shape-the_row-Link-5 hidden-the_row-Link-5 shape-the_row-Arrow-6 hidden-the_row-Arrow-6 shape-the_row-Jsx-7 hidden-the_row-Jsx-7 roll-Jsx hidden roll encode_utf8
 written_module imported n tag None attributes shape = refl
 written_module imported n tag (Some digits) attributes shape = refl
+
+pub module_is : (f : First_text) → Fits f → module_tree (module_of f) ≡ first_module (names_tree f.imported) f.name (signal_of f.initial) (element (is_shown f.shape) f.name f.tag f.attributes)
+module_is f fits =
+    let w = word f.name (left _ _ (left _ _ fits.named)) in
+    let l = listing f.attributes fits.attributed in
+    written_module f.imported f.name f.tag f.initial f.attributes f.shape
+    ∙ ap (λ (j : Jsx). first_module (names_tree f.imported) (encode_utf8_all f.name) (signal_of f.initial) j) (element_is f.shape f.name f.tag l)
+    ∙ ap (λ (t : Tag). first_module (names_tree f.imported) (encode_utf8_all f.name) (signal_of f.initial) (element_at t (is_shown f.shape) (encode_utf8_all f.name) (keeps f.attributes))) (tag_is f.tag fits.tagged)
+    ∙ ap (λ (n : Text). first_module (names_tree f.imported) n (signal_of f.initial) (element (is_shown f.shape) n f.tag (keeps f.attributes))) (letters_bytes f.name w.letters)
+    ∙ ap (λ (a : List First_attribute). first_module (names_tree f.imported) f.name (signal_of f.initial) (element (is_shown f.shape) f.name f.tag a)) (keeps_is l)
