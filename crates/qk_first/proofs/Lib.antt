@@ -7,3 +7,4 @@ pub mod Texts
 pub mod Listings
 pub mod Trees
 pub mod Roots
+pub mod Imports
