@@ -8,3 +8,4 @@ pub mod Listings
 pub mod Trees
 pub mod Roots
 pub mod Imports
+pub mod Plain
