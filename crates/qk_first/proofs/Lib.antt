@@ -3,3 +3,9 @@ pub mod Words
 pub mod Listener
 pub mod Component
 pub mod Passes
+pub mod Texts
+pub mod Listings
+pub mod Trees
+pub mod Roots
+pub mod Imports
+pub mod Plain

@@ -1,5 +1,6 @@
 -- Words for the trees of a module of the first form; they unfold to the constructors, so that the meaning of such a tree computes.
 use Rattle.std.specs.Prelude.{ℕ, ℤ, Bool, true, false, List, [], ◌∷◌, Option, Some, None, codes}
+use Rattle.qk_ast.specs.declared.Module.{Module}
 use Rattle.qk_ast.specs.declared.Pattern.{Pattern}
 use Rattle.qk_ast.specs.declared.Tag.{Tag}
 use Rattle.qk_ast.specs.declared.Expr.{Expr, Row_of-Expr, end_of-Expr, more_of-Expr, Row_of-Field, end_of-Field, more_of-Field, end_of-Link, more_of-Link, end_of-Arrow, more_of-Arrow, end_of-Jsx, more_of-Jsx}
@@ -54,9 +55,12 @@ abbrev pub children : Bool → Text → List Expr
 children true n = value_of n ∷ []
 children false n = []
 
+abbrev pub element_at : Tag → Bool → Text → List First_attribute → Jsx
+element_at tag shows n attributes =
+    Jsx' tag (units (attribute_pairs n attributes)) (field_row (attribute_pairs n attributes)) (units (children shows n)) (row (children shows n))
+
 abbrev pub element : Bool → Text → Text → List First_attribute → Jsx
-element shows n tag attributes =
-    Jsx' (Tag.Element tag) (units (attribute_pairs n attributes)) (field_row (attribute_pairs n attributes)) (units (children shows n)) (row (children shows n))
+element shows n tag attributes = element_at (Tag.Element tag) shows n attributes
 
 -- return <..>;
 abbrev pub returned : Jsx → Stmt
@@ -71,3 +75,15 @@ with_signal n k jsx = Body_block' (tt ∷ tt ∷ []) (more_of-Stmt (Stmt.Const (
 -- { return <..>; }
 abbrev pub without_signal : Jsx → Body
 without_signal jsx = Body_block' (tt ∷ []) (more_of-Stmt (returned jsx) end_of-Stmt)
+
+-- ---- the module
+
+abbrev pub body_of : Option ℤ → Text → Jsx → Body
+body_of None n jsx = without_signal jsx
+body_of (Some k) n jsx = with_signal n k jsx
+
+abbrev pub first_module : List Text → Text → Option ℤ → Jsx → Module
+first_module imported n signal jsx = record {
+  imports = record { names = imported; from = codes "@builder.io/qwik" } ∷ [];
+  items = record { exported = true; name = codes "App"; init = called (codes "component$") (arrow 0 (body_of signal n jsx)) } ∷ [];
+}
