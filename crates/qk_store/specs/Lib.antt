@@ -2,3 +2,5 @@ pub mod Causes
 pub mod Files
 pub mod Answers
 pub mod Pieces
+pub mod Held
+pub mod Calls

@@ -1,0 +1,45 @@
+// The calls of a store or a sink for tests, numbered from 1. Those whose number is listed fail.
+ghost use Rattle.std.specs.Prelude.{◌≡◌, ◌≤◌, IsTrue, Contains, ◌↔◌};
+ghost use Rattle.qk_store.specs.Calls.{next_number};
+
+#[derive(Drop)]
+pub struct Calls {
+    pub failing: Vec<u64>,
+    pub made: u64,
+    pub faults: u64,
+}
+
+impl Calls {
+    pub fn new(failing: Vec<u64>) -> Calls
+        ensures { result ≡ record { failing = failing; made = 0; faults = 0 } }
+    {
+        Calls {
+            failing,
+            made: 0,
+            faults: 0,
+        }
+    }
+
+    /// Whether the next call is one that fails.
+    pub fn next_fails(&self) -> bool
+        ensures { IsTrue result ↔ Contains self.now.failing.items (next_number self.now.made) }
+    {
+        self.failing.contains(&self.made.saturating_add(1))
+    }
+
+    /// Counts a call that was answered.
+    pub fn answered(&mut self)
+        ensures { self.new ≡ record self.old { made = next_number self.old.made } }
+    {
+        self.made = self.made.saturating_add(1);
+    }
+
+    /// Counts a call that failed.
+    pub fn failed(&mut self)
+        ensures counted { self.new ≡ record self.old { made = next_number self.old.made; faults = next_number self.old.faults } }
+        ensures later { self.old.faults ≤ self.new.faults }
+    {
+        self.made = self.made.saturating_add(1);
+        self.faults = self.faults.saturating_add(1);
+    }
+}
