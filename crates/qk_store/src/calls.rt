@@ -2,6 +2,14 @@
 ghost use Rattle.std.specs.Prelude.{◌≡◌, ◌≤◌, IsTrue, Contains, ◌↔◌};
 ghost use Rattle.qk_store.specs.Calls.{next_number};
 
+/// One more, up to the last value of a counter.
+pub fn one_more(count: u64) -> u64
+    ensures value { result ≡ next_number count }
+    ensures later { count ≤ result }
+{
+    count.saturating_add(1)
+}
+
 #[derive(Drop)]
 pub struct Calls {
     pub failing: Vec<u64>,
@@ -24,14 +32,14 @@ impl Calls {
     pub fn next_fails(&self) -> bool
         ensures { IsTrue result ↔ Contains self.now.failing.items (next_number self.now.made) }
     {
-        self.failing.contains(&self.made.saturating_add(1))
+        self.failing.contains(&one_more(self.made))
     }
 
     /// Counts a call that was answered.
     pub fn answered(&mut self)
         ensures { self.new ≡ record self.old { made = next_number self.old.made } }
     {
-        self.made = self.made.saturating_add(1);
+        self.made = one_more(self.made);
     }
 
     /// Counts a call that failed.
@@ -39,7 +47,7 @@ impl Calls {
         ensures counted { self.new ≡ record self.old { made = next_number self.old.made; faults = next_number self.old.faults } }
         ensures later { self.old.faults ≤ self.new.faults }
     {
-        self.made = self.made.saturating_add(1);
-        self.faults = self.faults.saturating_add(1);
+        self.made = one_more(self.made);
+        self.faults = one_more(self.faults);
     }
 }
