@@ -4,3 +4,4 @@ pub mod Answers
 pub mod Pieces
 pub mod Held
 pub mod Calls
+pub mod Memory

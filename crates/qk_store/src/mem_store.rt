@@ -1,7 +1,11 @@
-ghost use Rattle.std.specs.Prelude.{◌≡◌, Some, [], map};
+ghost use Rattle.std.specs.Prelude.{◌≡◌, Some, [], map, IfOk, OnOk, OnErr, IsErrOf};
 ghost use Rattle.std.specs.Option.{option_copied};
-ghost use Rattle.qk_store.specs.Answers.{answer};
+ghost use Rattle.qk_store.specs.Answers.{answer, content, reading, with_answer};
+ghost use Rattle.qk_store.specs.Calls.{IsNumbered};
+ghost use Rattle.qk_store.specs.Causes.{HasCause};
+ghost use Rattle.qk_store.specs.Files.{with_file, OthersStay};
 ghost use Rattle.qk_store.specs.Held.{held};
+ghost use Rattle.qk_store.specs.Memory.{store_files, store_answers, store_calls};
 
 use crate::calls::Calls;
 use crate::held::{file_of, find_file, note, put_file};
@@ -22,9 +26,9 @@ pub struct MemStore {
 impl MemStore {
     /// A store of these files. Where a name stands twice, its first entry is the file.
     pub fn new(alloc: Global, files: Vec<(String, Vec<u8>)>, failing: Vec<u64>) -> MemStore
-        ensures files { ⟦<MemStore as Store>⟧.files result ≡ Some (held files.items) }
-        ensures answers { ⟦<MemStore as Store>⟧.answers result ≡ Some [] }
-        ensures faults { ⟦<MemStore as Store>⟧.faults result ≡ 0 }
+        ensures files { store_files result ≡ held files.items }
+        ensures answers { store_answers result ≡ [] }
+        ensures calls { store_calls result ≡ record { failing = failing; made = 0; faults = 0 } }
     {
         MemStore {
             alloc,
@@ -36,28 +40,37 @@ impl MemStore {
 
     /// The bytes of the file of this name.
     pub fn file(&self, name: &str) -> Option<&[u8]>
-        ensures { option_copied result ≡ held self.now.files.items name.now }
+        ensures { option_copied result ≡ store_files self.now name.now }
     {
         file_of(&self.files, name)
     }
 
     /// What each read so far was answered, the latest last.
     pub fn reads(&self) -> &[Seen]
-        ensures { ⟦<MemStore as Store>⟧.answers self.now ≡ Some (map answer result.now) }
+        ensures { map answer result.now ≡ store_answers self.now }
     {
         self.seen.as_slice()
     }
 }
 
 impl Store for MemStore {
-    ghost files = { λ s. Some (held s.files.items) };
+    ghost files = { λ s. Some (store_files s) };
 
-    ghost answers = { λ s. Some (map answer s.seen.items) };
+    ghost answers = { λ s. Some (store_answers s) };
 
-    ghost faults = { λ s. s.calls.faults };
+    ghost faults = { λ s. (store_calls s).faults };
 
     #[tactic(auto, using(crate::proofs::Faults::store_failed))]
-    fn read(&mut self, name: &str, most: usize) -> Result<Found, StoreFault> {
+    fn read(&mut self, name: &str, most: usize) -> Result<Found, StoreFault>
+        ensures found { IfOk result (λ found. content found ≡ reading (store_files self.old name.now) most) }
+        ensures files { store_files self.new ≡ store_files self.old }
+        ensures answered { IfOk result (λ found.
+            store_answers self.new ≡ with_answer name.now most (content found) (store_answers self.old)) }
+        ensures refused { OnErr result (store_answers self.new ≡ store_answers self.old) }
+        ensures numbered { IsNumbered StoreFault.Failed StoreFault.Memory (store_calls self.old) (store_calls self.new) result }
+        ensures cause { HasCause StoreFault.Failed StoreFault.Memory
+            (store_calls self.old).faults (store_calls self.new).faults result }
+    {
         if self.calls.next_fails() {
             self.calls.failed();
             return Err(StoreFault::Failed);
@@ -69,7 +82,15 @@ impl Store for MemStore {
     }
 
     #[tactic(auto, using(crate::proofs::Faults::store_failed, crate::proofs::FileLemmas::others_kept))]
-    fn write(&mut self, name: &str, bytes: &[u8]) -> Result<(), StoreFault> {
+    fn write(&mut self, name: &str, bytes: &[u8]) -> Result<(), StoreFault>
+        ensures written { OnOk result (store_files self.new ≡ with_file name.now (Some bytes.now) (store_files self.old)) }
+        ensures kept { OnErr result (store_files self.new ≡ store_files self.old) }
+        ensures others { OthersStay name.now (Some (store_files self.old)) (Some (store_files self.new)) }
+        ensures answers { store_answers self.new ≡ store_answers self.old }
+        ensures numbered { IsNumbered StoreFault.Failed StoreFault.Memory (store_calls self.old) (store_calls self.new) result }
+        ensures cause { HasCause StoreFault.Failed StoreFault.Memory
+            (store_calls self.old).faults (store_calls self.new).faults result }
+    {
         if self.calls.next_fails() {
             self.calls.failed();
             return Err(StoreFault::Failed);
