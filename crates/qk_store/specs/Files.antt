@@ -1,7 +1,6 @@
 -- The files of a store: what stands under each name.
-use Rattle.std.specs.Prelude.{◌≡◌, ℕ, Option, List, nat_eq, if◌then◌else◌}
+use Rattle.std.specs.Prelude.{◌≡◌, ℕ, Option, List, bytes_eq, if◌then◌else◌}
 use Rattle.std.specs.Option.{option_map}
-use Rattle.std.specs.Cmp.Lexicographic.{pointwise}
 
 -- the bytes of the file of each name, where there is such a file
 abbrev pub Files : Type 0
@@ -9,8 +8,9 @@ Files = List ℕ → Option (List ℕ)
 
 -- these files, but for the one of this name, where this stands
 abbrev pub with_file : List ℕ → Option (List ℕ) → Files → Files
-with_file name file files other = if pointwise nat_eq other name then file else files other
+with_file name file files other = if bytes_eq other name then file else files other
 
 -- the file of this name may be another; all others stay, and whether files are told
-abbrev pub OthersStay : List ℕ → Option Files → Option Files → Type 0
-OthersStay name before after = (left : Option (List ℕ)) × (after ≡ option_map (with_file name left) before)
+pub record OthersStay (name : List ℕ) (before after : Option Files) : Type 0 where
+  pub left : Option (List ℕ)
+  pub others : after ≡ option_map (with_file name left) before

@@ -6,6 +6,7 @@ use Rattle.std.specs.Option.{option_map}
 abbrev pub with_piece : List ℕ → List ℕ → List ℕ
 with_piece piece put = put ++ piece
 
--- a front of the piece was appended, and bytes are told after as before
-abbrev pub AppendsFront : List ℕ → Option (List ℕ) → Option (List ℕ) → Type 0
-AppendsFront piece before after = (taken : ℕ) × (after ≡ option_map (with_piece (take taken piece)) before)
+-- a front of the piece was appended, and whether bytes are told stays
+pub record AppendsFront (piece : List ℕ) (before after : Option (List ℕ)) : Type 0 where
+  pub taken : ℕ
+  pub appended : after ≡ option_map (with_piece (take taken piece)) before
