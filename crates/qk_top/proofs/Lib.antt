@@ -1,3 +1,4 @@
+pub mod Plays
 pub mod Shown
 pub mod Numbers
 pub mod Commands

@@ -1,6 +1,7 @@
-ghost use Rattle.std.specs.Prelude.{◌≡◌, ◌++◌, OnOk, string_bytes};
+ghost use Rattle.std.specs.Prelude.{◌≡◌, ◌++◌, ◌<◌, ◌^◌, IfOk, OnOk, string_bytes};
 ghost use Rattle.qk_first.specs.Counter.{hears};
-ghost use Rattle.qk_top.specs.Blocks.{counter_in, count_text, number_text, item_text, html_text, opening_text, closing_text, id_text, shown_text};
+ghost use Rattle.qk_top.specs.Blocks.{counter_in, moves, clicked, moved_text, click_text, first_text, count_text, number_text, item_text, html_text, opening_text, closing_text, id_text, shown_text};
+ghost use lib.Signed.{mag};
 
 use crate::shape::Counter;
 use std::alloc::AllocError;
@@ -15,6 +16,64 @@ fn heard(counter: &Counter, id: &[u8]) -> Option<bool>
     }
 }
 
+/// The number after a click at the id, where it is heard.
+fn moved_number(counter: &Counter, id: &[u8], number: i64) -> Option<i64>
+    requires { mag number < 2 ^ 40 }
+    ensures { result ≡ moves (counter_in counter.now) number id.now }
+{
+    match heard(counter, id)? {
+        true => Some(number + 1),
+        false => Some(number - 1),
+    }
+}
+
+/// Appends the block of the first render.
+#[tactic(auto, unfolding(crate::specs::Blocks::first_text))]
+pub(crate) fn push_first(counter: &Counter, block: &mut String) -> Result<(), AllocError>
+    ensures { OnOk result (string_bytes block.new ≡ string_bytes block.old ++ first_text (counter_in counter.now)) }
+{
+    push_item_line(0, block)?;
+    push_html_line(counter, counter.initial, block)
+}
+
+/// Appends what stands behind the first line of a click's block: the number moved to this, or nothing heard the click.
+#[tactic(auto, unfolding(crate::specs::Blocks::moved_text))]
+fn push_moved(
+    counter: &Counter,
+    number: i64,
+    moved: Option<i64>,
+    block: &mut String,
+) -> Result<(), AllocError>
+    ensures { OnOk result (string_bytes block.new ≡ string_bytes block.old ++ moved_text (counter_in counter.now) number moved) }
+{
+    match moved {
+        Some(after) => push_html_line(counter, after, block),
+        None => {
+            block.push_str("none\n")?;
+            push_html_line(counter, number, block)
+        }
+    }
+}
+
+/// Appends the block of a click at the id, which is this item, where the number was this before it.
+#[tactic(auto, unfolding(crate::specs::Blocks::click_text))]
+pub(crate) fn push_click(
+    counter: &Counter,
+    item: u64,
+    id: &[u8],
+    number: i64,
+    block: &mut String,
+) -> Result<i64, AllocError>
+    requires { mag number < 2 ^ 40 }
+    ensures number { IfOk result (λ after. after ≡ clicked (counter_in counter.now) number id.now) }
+    ensures block { OnOk result (string_bytes block.new ≡ string_bytes block.old ++ click_text (counter_in counter.now) item number id.now) }
+{
+    let moved = moved_number(counter, id, number);
+    push_item_line(item, block)?;
+    push_moved(counter, number, moved, block)?;
+    Ok(moved.unwrap_or(number))
+}
+
 /// Appends the line `item k`.
 fn push_item_line(number: u64, block: &mut String) -> Result<(), AllocError>
     ensures { OnOk result (string_bytes block.new ≡ string_bytes block.old ++ item_text number) }
@@ -25,6 +84,7 @@ fn push_item_line(number: u64, block: &mut String) -> Result<(), AllocError>
 }
 
 /// Appends the line of the element's HTML at this number.
+#[tactic(auto, unfolding(crate::specs::Blocks::html_text))]
 fn push_html_line(counter: &Counter, number: i64, block: &mut String) -> Result<(), AllocError>
     ensures { OnOk result (string_bytes block.new ≡ string_bytes block.old ++ html_text (counter_in counter.now) number) }
 {

@@ -2,6 +2,7 @@
 #![tactic(auto)]
 
 mod blocks;
+mod play;
 mod script;
 mod shape;
 mod words;
