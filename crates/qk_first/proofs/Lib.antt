@@ -9,3 +9,4 @@ pub mod Trees
 pub mod Roots
 pub mod Imports
 pub mod Plain
+pub mod Elements
