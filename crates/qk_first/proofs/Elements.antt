@@ -7,18 +7,21 @@ use Rattle.std.proofs.lemmas.Bool.{le-leb}
 use mathlib.Core.Path.{sym}
 use Rattle.qk_ast.specs.Characters.{Characters, is_one_of, every, is_small_letter}
 use Rattle.qk_ast.specs.First.{First_attribute, Id, On_click, first_tags}
-use Rattle.qk_meaning.specs.Value.{Text, Site, Fields}
+use Rattle.qk_meaning.specs.Value.{Text, Site, Value, Ref, Closure, Fields, end, field}
 use Rattle.qk_meaning.specs.Texts.{same_text, integer_text}
 use Rattle.qk_meaning.specs.Expansion.{Tagged, Inside, Nodes, no_nodes, node, joined, text_nodes}
 use Rattle.qk_meaning.specs.Html as Html
 use Rattle.qk_meaning.specs.Html.{written, text_char, html, nodes_count, closed, void_tags}
+use Rattle.qk_meaning.specs.Tree as Found
+use Rattle.qk_meaning.specs.Tree.{heard_by, listener_among, first_with, shows_id}
+use Rattle.qk_meaning.specs.Hooks.{or_else}
 use Rattle.qk_meaning.specs.Item.{html_within_limits}
 use Rattle.qk_meaning.specs.Doing.{Doing, Gives, chosen, give}
 use Rattle.qk_meaning.specs.Running.{Running, fault}
 use Rattle.qk_meaning.specs.Fault.{TreeTooLarge, HtmlTooLong}
-use Rattle.qk_first.specs.Counter.{Counter, attributes_html, shown_number, first_html}
+use Rattle.qk_first.specs.Counter.{Counter, has_id, attributes_html, shown_number, first_html}
 use Rattle.qk_first.proofs.Texts.{among, IsWord}
-use Rattle.qk_first.proofs.Listings.{Listing, nothing, id_only, click_only, id_click, click_id}
+use Rattle.qk_first.proofs.Listings.{Listing, nothing, id_only, click_only, id_click, click_id, has_listener}
 use Rattle.qk_first.proofs.Plain.{is_plain, plain_letters, number_plain, number_short, written_text, written_attribute, is_printed, printed_plain, every_append}
 use Rattle.qk_first.proofs.Component.{attribute_fields}
 use Rattle.qk_first.proofs.Passes.{child_nodes}
@@ -128,3 +131,47 @@ module _ (c : Counter) (site : Site) (n : Text) (list : Listing c.attributes) (t
       ap (λ (b : Bool). chosen b (chosen (nat_le (length (html (nodes_of v))) 16777216) (give (html (nodes_of v))) (fault HtmlTooLong)) (fault TreeTooLarge) s) (le-leb (nodes_count (nodes_of v)) 65536 (omega (arith, child_count c.shows v)))
       ∙ ap (λ (t : Text). chosen (nat_le (length t) 16777216) (give t) (fault HtmlTooLong) s) (html_is v)
       ∙ ap (λ (b : Bool). chosen b (give (first_html c v)) (fault HtmlTooLong) s) (le-leb (length (first_html c v)) 16777216 (omega (arith, html_short v)))
+
+-- ---- who hears a click
+
+abbrev pub own_listener : Site → Text → Value
+own_listener site n = Closure site (field n (Ref 1) end) false
+
+-- the listener where the id is the element's and it has one
+abbrev pub if_both : Bool → Bool → Value → Option Value
+if_both true true f = Some f
+if_both true false f = None
+if_both false b f = None
+
+text_unfound : (id t : Text) → first_with id (joined (text_nodes t) no_nodes) ≡ None
+text_unfound id [] = refl
+text_unfound id (c ∷ cs) = refl
+
+child_unfound : (id : Text) (shows : Bool) (v : ℤ) → first_with id (child_nodes shows v) ≡ None
+child_unfound id true v = text_unfound id (integer_text v)
+child_unfound id false v = refl
+
+id_shown : (site : Site) (n id : Text) {attributes : List First_attribute} → Listing attributes → shows_id id (attribute_fields site n attributes) ≡ has_id id attributes
+id_shown site n id nothing = refl
+id_shown site n id (id_only w) = refl
+id_shown site n id click_only = refl
+id_shown site n id (id_click w) = refl
+id_shown site n id (click_id w) = refl
+
+listener_found : (site : Site) (n : Text) {attributes : List First_attribute} → Listing attributes → Found.listener (codes "click") (attribute_fields site n attributes) ≡ if_both true (has_listener attributes) (own_listener site n)
+listener_found site n nothing = refl
+listener_found site n (id_only w) = refl
+listener_found site n click_only = refl
+listener_found site n (id_click w) = refl
+listener_found site n (click_id w) = refl
+
+pub heard_is : (c : Counter) (site : Site) (n id : Text) → Listing c.attributes → (v : ℤ)
+    → heard_by (codes "click") id (node (Inside [] (node (Tagged c.tag (attribute_fields site n c.attributes) (child_nodes c.shows v)) no_nodes)) no_nodes)
+    ≡ if_both (has_id id c.attributes) (has_listener c.attributes) (own_listener site n)
+heard_is c site n id list v =
+    ap (λ (b : Bool). listener_among (codes "click") (or_else (or_else (elim b [ true ↦ Some (attribute_fields site n c.attributes) | false ↦ first_with id (child_nodes c.shows v) ]) None) None)) (id_shown site n id list)
+    ∙ go (has_id id c.attributes)
+  where
+    go : (b : Bool) → listener_among (codes "click") (or_else (or_else (elim b [ true ↦ Some (attribute_fields site n c.attributes) | false ↦ first_with id (child_nodes c.shows v) ]) None) None) ≡ if_both b (has_listener c.attributes) (own_listener site n)
+    go true = listener_found site n list
+    go false = ap (λ (o : Option Fields). listener_among (codes "click") (or_else (or_else o None) None)) (child_unfound id c.shows v)

@@ -10,3 +10,4 @@ pub mod Roots
 pub mod Imports
 pub mod Plain
 pub mod Elements
+pub mod Integers
