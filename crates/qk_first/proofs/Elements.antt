@@ -99,7 +99,7 @@ number_printed false v = refl
 -- ---- the element
 
 module _ (c : Counter) (site : Site) (n : Text) (list : Listing c.attributes) (tagged : IsTag c.tag) where
-  abbrev nodes_of : ℤ → Nodes
+  abbrev pub nodes_of : ℤ → Nodes
   nodes_of v = node (Inside [] (node (Tagged c.tag (attribute_fields site n c.attributes) (child_nodes c.shows v)) no_nodes)) no_nodes
 
   abbrev behind : ℤ → Text

@@ -11,3 +11,4 @@ pub mod Imports
 pub mod Plain
 pub mod Elements
 pub mod Integers
+pub mod Runs
