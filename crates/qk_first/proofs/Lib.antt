@@ -12,3 +12,4 @@ pub mod Plain
 pub mod Elements
 pub mod Integers
 pub mod Runs
+pub mod Law

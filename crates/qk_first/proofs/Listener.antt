@@ -25,10 +25,10 @@ abbrev pub listener_code : Text → Text → Bool → Code
 listener_code file n up = record { file = file; captures = n ∷ []; task = false; params = []; body = bump up n }
 
 module _ (p : Program) (enter : Entering) (file n : Text) (own : same_text n n ≡ true) where
-  abbrev here : Setting
+  abbrev pub here : Setting
   here = record { program = p; enter = enter; mode = Effect; running = []; file = file; tracks = false }
 
-  abbrev counting : ℤ → List Loc → List Text → ℕ → List Happening → Running
+  abbrev pub counting : ℤ → List Loc → List Text → ℕ → List Happening → Running
   counting v log lines turns trace = record { heap = Props end ∷ Signal (Int v) ∷ []; log = log; lines = lines; turns = turns; trace = trace; locals = end; hooking = Outside }
 
   value_own : (v : Value) → value_at n (field n v end) ≡ v
@@ -52,3 +52,10 @@ module _ (p : Program) (enter : Entering) (file n : Text) (own : same_text n n �
       → entered (At_site site) (listener_code file n false) here (field n (Ref 1) end) arguments (counting v log lines (suc turns) [])
       ≡ Gives (Int v) (counting (v -ℤ pos 1) (log ++ value_in 1 ∷ []) lines turns (Entered (At_site site) ∷ Did_read (record { loc = value_in 1; at = length log }) ∷ Did_act 1 ∷ []))
   down_counts site arguments v log lines turns stays differs = rw (own, value_own (Ref 1), stays, logs v (v -ℤ pos 1) differs)
+
+  pub counts : (up : Bool) (site : Site) (arguments : List Value) (v : ℤ) (log : List Loc) (lines : List Text) (turns : ℕ)
+      → safe (moved up v) ≡ Is (Int (moved up v)) → same_integer v (moved up v) ≡ false
+      → entered (At_site site) (listener_code file n up) here (field n (Ref 1) end) arguments (counting v log lines (suc turns) [])
+      ≡ Gives (Int v) (counting (moved up v) (log ++ value_in 1 ∷ []) lines turns (Entered (At_site site) ∷ Did_read (record { loc = value_in 1; at = length log }) ∷ Did_act 1 ∷ []))
+  counts true site arguments v log lines turns stays differs = up_counts site arguments v log lines turns stays differs
+  counts false site arguments v log lines turns stays differs = down_counts site arguments v log lines turns stays differs
