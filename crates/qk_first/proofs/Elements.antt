@@ -1,12 +1,11 @@
 -- The HTML of the element is what the counter prints, and it is within the limits.
-use Rattle.std.specs.Prelude.{◌≡◌, refl, ℕ, suc, ◌+◌, ◌≤◌, ℤ, Bool, true, false, ◌&&◌, nat_le, List, [], ◌∷◌, ◌++◌, length, Option, Some, None, IsTrue, codes}
+use Rattle.std.specs.Prelude.{◌≡◌, refl, ◌≤◌, ℤ, Bool, true, false, nat_le, List, [], ◌∷◌, ◌++◌, length, Option, Some, None, IsTrue, codes}
 use Rattle.std.specs.List.{list_any}
 use Rattle.std.proofs.Common.{ap, ◌∙◌, arith, append-nil}
 use Rattle.std.proofs.lemmas.List.{length-append}
 use Rattle.std.proofs.lemmas.Bool.{le-leb}
-use mathlib.Core.Path.{sym}
 use Rattle.qk_ast.specs.Characters.{Characters, is_one_of, every, is_small_letter}
-use Rattle.qk_ast.specs.First.{First_attribute, Id, On_click, first_tags}
+use Rattle.qk_ast.specs.First.{First_attribute, first_tags}
 use Rattle.qk_meaning.specs.Value.{Text, Site, Value, Ref, Closure, Fields, end, field}
 use Rattle.qk_meaning.specs.Texts.{same_text, integer_text}
 use Rattle.qk_meaning.specs.Expansion.{Tagged, Inside, Nodes, no_nodes, node, joined, text_nodes}
@@ -16,13 +15,13 @@ use Rattle.qk_meaning.specs.Tree as Found
 use Rattle.qk_meaning.specs.Tree.{heard_by, listener_among, first_with, shows_id}
 use Rattle.qk_meaning.specs.Hooks.{or_else}
 use Rattle.qk_meaning.specs.Item.{html_within_limits}
-use Rattle.qk_meaning.specs.Doing.{Doing, Gives, chosen, give}
+use Rattle.qk_meaning.specs.Doing.{Gives, chosen, give}
 use Rattle.qk_meaning.specs.Running.{Running, fault}
 use Rattle.qk_meaning.specs.Fault.{TreeTooLarge, HtmlTooLong}
 use Rattle.qk_first.specs.Counter.{Counter, has_id, attributes_html, shown_number, first_html}
 use Rattle.qk_first.proofs.Texts.{among, IsWord}
 use Rattle.qk_first.proofs.Listings.{Listing, nothing, id_only, click_only, id_click, click_id, has_listener}
-use Rattle.qk_first.proofs.Plain.{is_plain, plain_letters, number_plain, number_short, written_text, written_attribute, is_printed, printed_plain, every_append}
+use Rattle.qk_first.proofs.Plain.{plain_letters, number_plain, number_short, written_text, written_attribute, is_printed, printed_plain, every_append}
 use Rattle.qk_first.proofs.Component.{attribute_fields}
 use Rattle.qk_first.proofs.Passes.{child_nodes}
 
@@ -121,9 +120,9 @@ module _ (c : Counter) (site : Site) (n : Text) (list : Listing c.attributes) (t
   html_printed v =
       let tag = printed_plain c.tag (plain_letters c.tag tagged.letters) in
       every_append is_printed c.tag (attributes_html c.attributes ++ (codes ">" ++ behind v)) tag
-        (every_append is_printed (attributes_html c.attributes) (codes ">" ++ behind v) (attributes_printed list)
-          (every_append is_printed (shown_number c v) (codes "</" ++ (c.tag ++ codes ">")) (number_printed c.shows v)
-            (every_append is_printed c.tag (codes ">") tag refl)))
+      (every_append is_printed (attributes_html c.attributes) (codes ">" ++ behind v) (attributes_printed list)
+      (every_append is_printed (shown_number c v) (codes "</" ++ (c.tag ++ codes ">")) (number_printed c.shows v)
+      (every_append is_printed c.tag (codes ">") tag refl)))
 
   -- the HTML is made within the limits
   pub fits : (v : ℤ) (s : Running) → html_within_limits (nodes_of v) s ≡ Gives (first_html c v) s

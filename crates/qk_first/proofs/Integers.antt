@@ -1,10 +1,10 @@
 -- A step up or down from an integer.
-use Rattle.std.specs.Prelude.{◌≡◌, refl, ℕ, zero, suc, ◌+◌, ◌-◌, ◌≤◌, ℤ, pos, negsuc, ◌+ℤ◌, ◌-ℤ◌, nat_abs, nat_le, ◌==◌, Bool, true, false}
+use Rattle.std.specs.Prelude.{◌≡◌, refl, ℕ, zero, suc, ◌+◌, ◌-◌, ◌≤◌, ℤ, pos, negsuc, ◌+ℤ◌, ◌-ℤ◌, nat_abs, Bool, true, false}
 use Rattle.std.proofs.Common.{ap, ◌∙◌, arith}
 use mathlib.Core.Bool.{cond}
 use Rattle.std.proofs.lemmas.Bool.{le-leb, ne_eqb, lt-ltb, le-ltb}
-use Rattle.qk_meaning.specs.Value.{Value, Int}
-use Rattle.qk_meaning.specs.Operators.{safe, Is, Answer, Fails}
+use Rattle.qk_meaning.specs.Value.{Int}
+use Rattle.qk_meaning.specs.Operators.{safe, Is}
 use Rattle.qk_meaning.specs.Same.{same_integer}
 use Rattle.qk_first.specs.Counter.{moved}
 

@@ -1,19 +1,18 @@
 -- What the listener does.
-use Rattle.std.specs.Prelude.{◌≡◌, refl, ℕ, suc, ℤ, pos, ◌+ℤ◌, ◌-ℤ◌, nat_abs, nat_le, Bool, true, false, List, [], ◌∷◌, ◌++◌, Option, Some, None, length, codes}
-use Rattle.qk_meaning.specs.Value.{Text, Site, Value, Fields, Undefined, Int, Words, Ref, Closure, end, field}
+use Rattle.std.specs.Prelude.{◌≡◌, ℕ, suc, ℤ, pos, ◌+ℤ◌, ◌-ℤ◌, Bool, true, false, List, [], ◌∷◌, ◌++◌, length, codes}
+use Rattle.qk_meaning.specs.Value.{Text, Site, Value, Int, Ref, end, field}
 use Rattle.std.proofs.Common.{ap}
-use Rattle.qk_meaning.specs.World.{Object, Key, Props, Signal, Loc, Prop, Read}
+use Rattle.qk_meaning.specs.World.{Key, Props, Signal, Loc, Prop}
 use Rattle.qk_meaning.specs.Texts.{same_text}
-use Rattle.qk_meaning.specs.Parts.{has_field, value_at, found}
+use Rattle.qk_meaning.specs.Parts.{value_at, found}
 use Rattle.qk_meaning.specs.Same.{same_integer}
 use Rattle.qk_meaning.specs.Program.{Program, Code}
-use Rattle.qk_meaning.specs.Doing.{Outcome, Gives, after}
-use Rattle.qk_meaning.specs.Running.{Running, Mode, Effect, Which, At_site, Hooking, Outside, Happening, Did_read, Did_act, Entered}
+use Rattle.qk_meaning.specs.Doing.{Gives}
+use Rattle.qk_meaning.specs.Running.{Running, Effect, At_site, Outside, Happening, Did_read, Did_act, Entered}
 use Rattle.qk_meaning.specs.Setting.{Entering, Setting, captures}
 use Rattle.qk_meaning.specs.Changes.{changed_in}
 use Rattle.qk_meaning.specs.Operators.{safe, Is}
-use Rattle.qk_meaning.specs.References.{local_or, Member, value_of}
-use Rattle.qk_meaning.specs.Evaluation.{entered, refer}
+use Rattle.qk_meaning.specs.Evaluation.{entered}
 use Rattle.qk_first.specs.Counter.{moved}
 use Rattle.qk_first.proofs.Words.{bump}
 

@@ -1,9 +1,9 @@
 -- The passes of a session whose one component shows one element, where it is known what the component's function does.
-use Rattle.std.specs.Prelude.{◌≡◌, refl, ℕ, suc, ℤ, Bool, true, false, List, [], ◌∷◌, ◌++◌, Option, Some, None, length, drop, ◌&&◌, not, is_some, codes}
+use Rattle.std.specs.Prelude.{◌≡◌, refl, ℕ, suc, ℤ, Bool, true, false, List, [], ◌∷◌, ◌++◌, Option, Some, None, length, ◌&&◌, not, is_some}
 use Rattle.std.proofs.Common.{ap, ◌∙◌, append-nil}
 use Rattle.std.proofs.lemmas.Bool.{eq-eqb}
 use Rattle.std.proofs.Math.Seq.{drop-append_seam}
-use Rattle.qk_meaning.specs.Value.{Text, Site, Shown, Element, Component, Value, Values, Fields, Int, Ref, Elem, Closure, none, item, end}
+use Rattle.qk_meaning.specs.Value.{Text, Site, Shown, Element, Component, Value, Fields, Ref, Elem, Closure, none, end}
 use Rattle.qk_meaning.specs.World.{Object, Props, Loc, Read, Hook, Instance, World}
 use Rattle.qk_meaning.specs.Parts.{packed}
 use Rattle.qk_meaning.specs.Texts.{integer_text}
@@ -13,11 +13,11 @@ use Rattle.qk_meaning.specs.Running.{Running, Effect, Pure, At_site, Hooking, Ou
 use Rattle.qk_meaning.specs.Evaluation.{entering}
 use Rattle.qk_meaning.specs.Trace.{own_reads}
 use Rattle.qk_meaning.specs.Readings.{app_of}
-use Rattle.qk_meaning.specs.Expansion.{Node, Tagged, Inside, Nodes, no_nodes, node, joined, text_nodes, Visit, expand_app, component_with, expand_item, view_with, wrapped, nothing_given, children_of}
+use Rattle.qk_meaning.specs.Expansion.{Tagged, Inside, Nodes, no_nodes, node, joined, text_nodes, Visit, expand_app, expand_item, view_with, wrapped, nothing_given, children_of}
 use Rattle.qk_meaning.specs.Tree.{heard_by, tree, nodes_given, view_at}
-use Rattle.qk_meaning.specs.Session.{Session, world_of, session_in, nothing_yet, lines_in, runs}
-use Rattle.qk_meaning.specs.Item.{Block, Event, Limits, html_within_limits, block, event, heard, records_of, first_render, first_item, event_item}
-use Rattle.qk_meaning.specs.Execution.{Execution, execution, execute_again, mount, take_or_mount}
+use Rattle.qk_meaning.specs.Session.{Session, session_in, nothing_yet, lines_in, runs}
+use Rattle.qk_meaning.specs.Item.{Block, Event, html_within_limits, block, event, heard, records_of, first_render}
+use Rattle.qk_meaning.specs.Execution.{execution, take_or_mount}
 use Rattle.qk_meaning.specs.Settling.{Spot, due_hook, first_due, is_quiet, pass, round, settled, settled_within}
 use Rattle.qk_first.proofs.Component.{child_values}
 
@@ -86,8 +86,8 @@ module _ (p : Program) (levels : ℕ) (component : Site) (app : app_of p ≡ Com
     passes w reads v log lines turns trace executed mounted =
         ap (λ (a : Shown). after (expand_app (take_or_mount p levels) lines_in a (session v log lines (suc turns) trace (stood w reads ∷ []) [] false)) (λ nodes. becomes (λ s. record s { instances = s.executed; executed = [] }))) app
         ∙ ap (λ (o : Outcome Session Nodes). after o (λ nodes. becomes (λ s. record s { instances = s.executed; executed = [] })))
-          (expands (take_or_mount p levels) lines_in v (session v log lines (suc turns) trace (stood w reads ∷ []) [] false)
-              (session v log lines turns (trace ++ happens (length log)) (stood w reads ∷ []) (stood (view v) (own_reads (happens (length log))) ∷ []) false) (visits w reads v log lines turns trace))
+        (expands (take_or_mount p levels) lines_in v (session v log lines (suc turns) trace (stood w reads ∷ []) [] false)
+        (session v log lines turns (trace ++ happens (length log)) (stood w reads ∷ []) (stood (view v) (own_reads (happens (length log))) ∷ []) false) (visits w reads v log lines turns trace))
 
     none_due : (w : Value) (reads : List Read) (v : ℤ) (log : List Loc) (lines : List Text) → first_due (record { heap = Props end ∷ rest v; log = log; lines = lines; instances = stood w reads ∷ [] }) ≡ None
     none_due w reads v log lines = ap (λ (o : Option Spot). elim o [ Some spot ↦ Some spot | None ↦ None ]) (idle log)
@@ -167,7 +167,7 @@ module _ (p : Program) (levels : ℕ) (component : Site) (app : app_of p ≡ Com
         first_pass turns =
             ap (λ (a : Shown). after (expand_app (take_or_mount p levels) lines_in a (session_in nothing_yet (suc turns))) (λ nodes. becomes (λ s. record s { instances = s.executed; executed = [] }))) app
             ∙ ap (λ (o : Outcome Session Nodes). after o (λ nodes. becomes (λ s. record s { instances = s.executed; executed = [] })))
-              (expands (take_or_mount p levels) lines_in k (session_in nothing_yet (suc turns)) (session k [] [] turns (happens 0) [] (stood (view k) (own_reads (happens 0)) ∷ []) true) (mounted_so turns))
+            (expands (take_or_mount p levels) lines_in k (session_in nothing_yet (suc turns)) (session k [] [] turns (happens 0) [] (stood (view k) (own_reads (happens 0)) ∷ []) true) (mounted_so turns))
 
         pub renders : (turns : ℕ) → first_render p levels (session_in nothing_yet (suc (suc turns)))
             ≡ Gives (shows_block false k) (session k [] [] turns (happens 0 ++ happens 0) (stood (view k) (own_reads (happens 0)) ∷ []) [] false)

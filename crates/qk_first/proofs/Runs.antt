@@ -1,8 +1,7 @@
 -- The run of a script, where it is known what the component and its listener do.
-use Rattle.std.specs.Prelude.{◌≡◌, refl, ℕ, suc, ◌+◌, ◌≤◌, ℤ, pos, nat_abs, Bool, true, false, List, [], ◌∷◌, ◌++◌, map, length, Option, Some, None, codes}
+use Rattle.std.specs.Prelude.{◌≡◌, refl, ℕ, suc, ◌+◌, ◌≤◌, ℤ, nat_abs, Bool, true, false, List, [], ◌∷◌, ◌++◌, map, length, Option, Some, None, codes}
 use Rattle.std.proofs.Common.{ap, ◌∙◌, arith}
 use mathlib.Core.Path.{sym}
-use Rattle.qk_ast.specs.Characters.{every}
 use Rattle.qk_ast.specs.First.{First_attribute, Id, On_click}
 use Rattle.qk_meaning.specs.Value.{Text, Site, Component, Value, Int, Ref, Closure, end}
 use Rattle.qk_meaning.specs.World.{Object, Props, Loc, Read, Hook, World}
@@ -15,7 +14,7 @@ use Rattle.qk_meaning.specs.Trace.{own_reads}
 use Rattle.qk_meaning.specs.Readings.{app_of}
 use Rattle.qk_meaning.specs.Settling.{due_hook}
 use Rattle.qk_meaning.specs.Session.{session_in}
-use Rattle.qk_meaning.specs.Item.{Event, Block, Limits, records_of}
+use Rattle.qk_meaning.specs.Item.{Event, Limits, records_of}
 use Rattle.qk_meaning.specs.Run.{Entry, Played, Run_from, played_all, played, Run, rendered}
 use Rattle.qk_meaning.specs.Html.{written}
 use Rattle.qk_meaning.specs.Output.{printed_char, line, block_text, output_from, output}
@@ -119,7 +118,7 @@ module _ (p : Program) (levels : ℕ) (c : Counter) (component site : Site) (n :
           run = played limits (record { none = false; lines = []; html = first_html c u })
               (passes.session p levels component app c.tag (attribute_fields site n c.attributes) c.shows rest hooks idle told u behind [] 98 (trace log ++ happens (length behind)) (passes.stood p levels component app c.tag (attribute_fields site n c.attributes) c.shows rest hooks idle told (view u) next ∷ []) [] false)
               (passes.heard_at p levels component app c.tag (attribute_fields site n c.attributes) c.shows rest hooks idle told does.again (first_html c) (fits c site n list tagged)
-                (event_of id) (own_listener site n) (Int v) v u log behind reads 98 (trace log) (heard_is c site n id list v ∙ found) (does.counts listens v (records_of (event_of id)) log 99 stays))
+              (event_of id) (own_listener site n) (Int v) v u log behind reads 98 (trace log) (heard_is c site n id list v ∙ found) (does.counts listens v (records_of (event_of id)) log 99 stays))
               r.run;
           prints = ap (λ (t : Text). t ++ output_from p (suc k) r.entries) (block_is c p k false u (world u behind next) (printed_is u))
               ∙ ap (λ (t : Text). (item_line k ++ html_line c u) ++ t) r.prints
@@ -130,8 +129,8 @@ module _ (p : Program) (levels : ℕ) (c : Counter) (component site : Site) (n :
     runs_from [] k v log reads room = record { entries = []; run = played_all; prints = refl }
     runs_from (id ∷ ids) k v log reads room =
         go (has_id id c.attributes) (has_listener c.attributes) refl refl
-          (runs_from ids (suc k) (moved (up_of c.attributes) v) (log ++ more) (own_reads (happens (length (log ++ more)))) (omega (arith, near (up_of c.attributes) v)))
-          (runs_from ids (suc k) v log reads (omega arith))
+        (runs_from ids (suc k) (moved (up_of c.attributes) v) (log ++ more) (own_reads (happens (length (log ++ more)))) (omega (arith, near (up_of c.attributes) v)))
+        (runs_from ids (suc k) v log reads (omega arith))
       where
         hears_if : Bool → Bool → Option Bool
         hears_if a b = elim a [ true ↦ elim b [ true ↦ Some (up_of c.attributes) | false ↦ None ] | false ↦ None ]
@@ -158,7 +157,7 @@ module _ (p : Program) (levels : ℕ) (c : Counter) (component site : Site) (n :
       pub prints : output p entries ≡ first_output c ids
 
     pub runs_whole : (mounts : (turns : ℕ) → entering p levels Pure [] (Closure component end false) (Ref 0 ∷ [])
-          (record { heap = Props end ∷ []; log = []; lines = []; turns = suc turns; trace = []; locals = end; hooking = Mounting [] [] [] }) ≡ Gives (view c.initial) (run_in c.initial [] turns (happens 0) (Mounting [] [] hooks)))
+        (record { heap = Props end ∷ []; log = []; lines = []; turns = suc turns; trace = []; locals = end; hooking = Mounting [] [] [] }) ≡ Gives (view c.initial) (run_in c.initial [] turns (happens 0) (Mounting [] [] hooks)))
         → (ids : List Text) → nat_abs c.initial + length ids ≤ 2000000 → RunsWhole ids
     runs_whole mounts ids room =
         let r = runs_from ids 1 c.initial [] (own_reads (happens 0)) room in
