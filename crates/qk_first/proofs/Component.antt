@@ -1,19 +1,19 @@
 -- What the component's function does at its mount and again.
-use Rattle.std.specs.Prelude.{◌≡◌, refl, ℕ, suc, ◌+◌, max, ℤ, pos, Bool, true, false, List, [], ◌∷◌, ◌++◌, Option, Some, None, length, nat_le, codes}
+use Rattle.std.specs.Prelude.{◌≡◌, refl, ℕ, suc, ◌+◌, max, ℤ, pos, Bool, true, false, List, [], ◌∷◌, ◌++◌, None, length, nat_le, codes}
 use Rattle.std.proofs.Common.{ap, ◌∙◌, append-nil}
 use Rattle.qk_ast.specs.First.{First_attribute, Id, On_click}
 use Rattle.qk_ast.specs.declared.Jsx.{Jsx}
 use Rattle.qk_ast.specs.declared.Tag.{Tag}
-use Rattle.qk_meaning.specs.Value.{Text, Site, Element, Value, Values, Fields, Undefined, Int, Words, Ref, Elem, Closure, none, item, end, field}
-use Rattle.qk_meaning.specs.World.{Object, Props, Signal, Loc, Prop, Step, Instance, Hook, Kept}
+use Rattle.qk_meaning.specs.Value.{Text, Site, Element, Value, Fields, Undefined, Int, Words, Ref, Elem, Closure, end, field}
+use Rattle.qk_meaning.specs.World.{Object, Props, Signal, Loc, Step, Instance, Kept}
 use Rattle.qk_meaning.specs.Texts.{same_text}
 use Rattle.qk_meaning.specs.Same.{weight, weight_of_named, depth, depth_of_named}
-use Rattle.qk_meaning.specs.Parts.{packed, has_field, value_at, found, replaced}
+use Rattle.qk_meaning.specs.Parts.{packed, value_at, found, replaced}
 use Rattle.qk_meaning.specs.Markup as Markup
 use Rattle.qk_meaning.specs.Markup.{markup_fault}
-use Rattle.qk_meaning.specs.Program.{Program, Root, Framework, Code}
-use Rattle.qk_meaning.specs.Doing.{Outcome, Gives, after}
-use Rattle.qk_meaning.specs.Running.{Running, Mode, Pure, At_site, Hooking, Outside, Mounting, Again, Happening, Did_read, Entered}
+use Rattle.qk_meaning.specs.Program.{Program, Framework, Code}
+use Rattle.qk_meaning.specs.Doing.{Gives}
+use Rattle.qk_meaning.specs.Running.{Running, Pure, At_site, Hooking, Mounting, Again, Happening, Did_read, Entered}
 use Rattle.qk_meaning.specs.Setting.{Entering, Setting, captures}
 use Rattle.qk_meaning.specs.Making.{made_function, made, made_markup}
 use Rattle.qk_meaning.specs.Evaluation.{entered, field_values, values, markup}
@@ -44,10 +44,10 @@ reads_told true at = Did_read (record { loc = value_in 1; at = at }) ∷ []
 reads_told false at = []
 
 module _ (p : Program) (enter : Entering) (file n : Text) (site : Site) (own : same_text n n ≡ true) where
-  abbrev here : Setting
+  abbrev pub here : Setting
   here = record { program = p; enter = enter; mode = Pure; running = []; file = file; tracks = false }
 
-  abbrev counting : ℤ → List Loc → List Text → ℕ → List Happening → Hooking → Running
+  abbrev pub counting : ℤ → List Loc → List Text → ℕ → List Happening → Hooking → Running
   counting v log lines turns trace hooking = record { heap = Props end ∷ Signal (Int v) ∷ []; log = log; lines = lines; turns = turns; trace = trace; locals = field n (Ref 1) end; hooking = hooking }
 
   value_own : (v : Value) → value_at n (field n v end) ≡ v
@@ -62,7 +62,7 @@ module _ (p : Program) (enter : Entering) (file n : Text) (site : Site) (own : s
   shows_children false v log lines turns trace hooking = rw append-nil
 
   module _ (makes : (s : Site) (scope : Fields) → p.makes s scope ≡ Closure s scope false) (sited : p.site file 1 ≡ site) (up : Bool) (coded : p.code site ≡ listener_code file n up) where
-    abbrev own_listener : Value
+    abbrev pub own_listener : Value
     own_listener = Closure site (field n (Ref 1) end) false
 
     named_weight : weight_of_named (captures here) (field n (Ref 1) end) n ≡ 1
@@ -71,24 +71,24 @@ module _ (p : Program) (enter : Entering) (file n : Text) (site : Site) (own : s
     named_depth : depth_of_named (captures here) (field n (Ref 1) end) n ≡ 0
     named_depth = rw (own, depth_of_named)
 
-    listener_weight : weight (captures here) own_listener ≡ 2
+    pub listener_weight : weight (captures here) own_listener ≡ 2
     listener_weight = rw coded (ap (λ (w : ℕ). suc (w + 0)) named_weight)
 
-    listener_depth : depth (captures here) own_listener ≡ 1
+    pub listener_depth : depth (captures here) own_listener ≡ 1
     listener_depth = rw coded (ap (λ (w : ℕ). suc (max w 0)) named_depth)
 
     makes_listener : (v : ℤ) (log : List Loc) (lines : List Text) (turns : ℕ) (trace : List Happening) (hooking : Hooking)
         → made_function here 1 (counting v log lines turns trace hooking) ≡ Gives own_listener (counting v log lines turns trace hooking)
     makes_listener v log lines turns trace hooking = rw (sited, makes site (field n (Ref 1) end), listener_weight, listener_depth)
 
-    gives_fields : (attributes : List First_attribute) (v : ℤ) (log : List Loc) (lines : List Text) (turns : ℕ) (trace : List Happening) (hooking : Hooking)
+    pub gives_fields : (attributes : List First_attribute) (v : ℤ) (log : List Loc) (lines : List Text) (turns : ℕ) (trace : List Happening) (hooking : Hooking)
         → field_values (field_row (attribute_pairs n attributes)) here (counting v log lines turns trace hooking) ≡ Gives (attribute_fields site n attributes) (counting v log lines turns trace hooking)
     gives_fields [] v log lines turns trace hooking = refl
     gives_fields (Id id ∷ more) v log lines turns trace hooking = rw (gives_fields more v log lines turns trace hooking)
     gives_fields (On_click true ∷ more) v log lines turns trace hooking = rw (makes_listener v log lines turns trace hooking, gives_fields more v log lines turns trace hooking)
     gives_fields (On_click false ∷ more) v log lines turns trace hooking = rw (makes_listener v log lines turns trace hooking, gives_fields more v log lines turns trace hooking)
 
-  abbrev view : Text → Bool → Fields → ℤ → Value
+  abbrev pub view : Text → Bool → Fields → ℤ → Value
   view tag shows attributes v = Elem (Element tag) None [] attributes (packed (child_values shows v))
 
   -- the element is made within the limits
@@ -100,7 +100,7 @@ module _ (p : Program) (enter : Entering) (file n : Text) (site : Site) (own : s
 
   module _ (tag : Text) (shows : Bool) (attributes : List First_attribute) (makes : Makes tag shows (attribute_fields site n attributes))
       (fields : (v : ℤ) (log : List Loc) (lines : List Text) (turns : ℕ) (trace : List Happening) (hooking : Hooking)
-        → field_values (field_row (attribute_pairs n attributes)) here (counting v log lines turns trace hooking) ≡ Gives (attribute_fields site n attributes) (counting v log lines turns trace hooking)) where
+      → field_values (field_row (attribute_pairs n attributes)) here (counting v log lines turns trace hooking) ≡ Gives (attribute_fields site n attributes) (counting v log lines turns trace hooking)) where
     makes_element : (v : ℤ) (s : Running) → made_markup here (Tag.Element tag) (attribute_fields site n attributes) (child_values shows v) s ≡ Gives (view tag shows (attribute_fields site n attributes) v) s
     makes_element v s = rw (makes.no_fault v) (ap (λ (w : Value). made here w s) (makes.makes_view v) ∙ rw (makes.light v, makes.flat v))
 
@@ -110,25 +110,25 @@ module _ (p : Program) (enter : Entering) (file n : Text) (site : Site) (own : s
         rw (fields v log lines turns trace hooking, shows_children shows v log lines turns trace hooking, makes_element v (counting v log lines turns (trace ++ reads_told shows (length log)) hooking))
 
     module _ (k : ℤ) (hook_root : p.root file (codes "useSignal") ≡ Framework (codes "useSignal")) (not_hook : same_text n (codes "useSignal") ≡ false) where
-      mounts : (component : Site) (arguments : List Value) (turns : ℕ) (trace : List Happening) (path : List Step) (before : List Instance)
+      pub mounts : (component : Site) (arguments : List Value) (turns : ℕ) (trace : List Happening) (path : List Step) (before : List Instance)
           → entered (At_site component) (component_code file n k (element shows n tag attributes)) here end arguments
-              (record { heap = Props end ∷ []; log = []; lines = []; turns = suc turns; trace = trace; locals = end; hooking = Mounting path before [] })
+          (record { heap = Props end ∷ []; log = []; lines = []; turns = suc turns; trace = trace; locals = end; hooking = Mounting path before [] })
           ≡ Gives (view tag shows (attribute_fields site n attributes) k)
-              (record { heap = Props end ∷ Signal (Int k) ∷ []; log = []; lines = []; turns = turns; trace = (trace ++ Entered (At_site component) ∷ []) ++ reads_told shows 0; locals = end; hooking = Mounting path before (Kept (Ref 1) ∷ []) })
+          (record { heap = Props end ∷ Signal (Int k) ∷ []; log = []; lines = []; turns = turns; trace = (trace ++ Entered (At_site component) ∷ []) ++ reads_told shows 0; locals = end; hooking = Mounting path before (Kept (Ref 1) ∷ []) })
       mounts component arguments turns trace path before =
           rw (not_hook, hook_root, replaced_own Undefined (Ref 1), shows_markup k [] [] turns (trace ++ Entered (At_site component) ∷ []) (Mounting path before (Kept (Ref 1) ∷ [])))
 
-      again : (component : Site) (arguments : List Value) (v : ℤ) (log : List Loc) (lines : List Text) (turns : ℕ) (trace : List Happening)
+      pub again : (component : Site) (arguments : List Value) (v : ℤ) (log : List Loc) (lines : List Text) (turns : ℕ) (trace : List Happening)
           → entered (At_site component) (component_code file n k (element shows n tag attributes)) here end arguments
-              (record { heap = Props end ∷ Signal (Int v) ∷ []; log = log; lines = lines; turns = suc turns; trace = trace; locals = end; hooking = Again (Kept (Ref 1) ∷ []) })
+          (record { heap = Props end ∷ Signal (Int v) ∷ []; log = log; lines = lines; turns = suc turns; trace = trace; locals = end; hooking = Again (Kept (Ref 1) ∷ []) })
           ≡ Gives (view tag shows (attribute_fields site n attributes) v)
-              (record { heap = Props end ∷ Signal (Int v) ∷ []; log = log; lines = lines; turns = turns; trace = (trace ++ Entered (At_site component) ∷ []) ++ reads_told shows (length log); locals = end; hooking = Again [] })
+          (record { heap = Props end ∷ Signal (Int v) ∷ []; log = log; lines = lines; turns = turns; trace = (trace ++ Entered (At_site component) ∷ []) ++ reads_told shows (length log); locals = end; hooking = Again [] })
       again component arguments v log lines turns trace =
           rw (not_hook, hook_root, replaced_own Undefined (Ref 1), shows_markup v log lines turns (trace ++ Entered (At_site component) ∷ []) (Again []))
 
   -- ---- without a signal
 
-  abbrev simply : List Object → List Loc → List Text → ℕ → List Happening → Hooking → Running
+  abbrev pub simply : List Object → List Loc → List Text → ℕ → List Happening → Hooking → Running
   simply heap log lines turns trace hooking = record { heap = heap; log = log; lines = lines; turns = turns; trace = trace; locals = end; hooking = hooking }
 
   module _ (tag : Text) (attributes : List First_attribute) (makes : Makes tag false (attribute_fields site n attributes))

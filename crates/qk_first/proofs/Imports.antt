@@ -1,5 +1,5 @@
 -- The imported names: `App` is none of them, and `useSignal` is one where a state stands.
-use Rattle.std.specs.Prelude.{◌≡◌, refl, ℕ, Bool, true, false, ◌&&◌, ◌||◌, List, [], ◌∷◌, length, IsTrue, codes, bytes_eq}
+use Rattle.std.specs.Prelude.{◌≡◌, refl, Bool, true, false, List, [], ◌∷◌, length, IsTrue, codes, bytes_eq}
 use Rattle.std.specs.Str.{encode_utf8_all}
 use Rattle.std.specs.Char.{encode_utf8}
 use Rattle.std.proofs.Common.{ap, ◌∙◌, arith}

@@ -9,3 +9,7 @@ pub mod Trees
 pub mod Roots
 pub mod Imports
 pub mod Plain
+pub mod Elements
+pub mod Integers
+pub mod Runs
+pub mod Law

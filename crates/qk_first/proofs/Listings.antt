@@ -1,10 +1,10 @@
 -- The attributes of the first form: an id and a listener, each at most once, in either order.
-use Rattle.std.specs.Prelude.{◌≡◌, refl, ℕ, suc, ◌+◌, ◌≤◌, max, ℤ, nat_le, Bool, true, false, ◌&&◌, List, [], ◌∷◌, map, length, Option, Some, None, IsTrue, codes}
-use Rattle.std.proofs.Common.{ap, ◌∙◌, arith}
+use Rattle.std.specs.Prelude.{◌≡◌, refl, ℤ, nat_le, Bool, true, false, ◌&&◌, List, [], ◌∷◌, map, None, IsTrue}
+use Rattle.std.proofs.Common.{arith}
 use Rattle.std.proofs.lemmas.Bool.{false≢true, le-leb}
 use Rattle.qk_ast.specs.Rules.{is_distinct}
-use Rattle.qk_ast.specs.First.{First_attribute, Id, On_click, is_short_word, attribute_name, attributes_fit}
-use Rattle.qk_meaning.specs.Value.{Text, Site, Element, Value, Fields, Int, Ref, Elem, Closure, end, field}
+use Rattle.qk_ast.specs.First.{First_attribute, Id, On_click, attribute_name, attributes_fit}
+use Rattle.qk_meaning.specs.Value.{Text, Site, Element, Value, Ref, Elem, Closure, end, field}
 use Rattle.qk_meaning.specs.Parts.{packed}
 use Rattle.qk_meaning.specs.Same.{weight, depth}
 use Rattle.qk_meaning.specs.Markup.{markup_fault, element}

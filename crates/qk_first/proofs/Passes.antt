@@ -1,9 +1,9 @@
 -- The passes of a session whose one component shows one element, where it is known what the component's function does.
-use Rattle.std.specs.Prelude.{◌≡◌, refl, ℕ, suc, ℤ, Bool, true, false, List, [], ◌∷◌, ◌++◌, Option, Some, None, length, drop, ◌&&◌, not, is_some, codes}
+use Rattle.std.specs.Prelude.{◌≡◌, refl, ℕ, suc, ℤ, Bool, true, false, List, [], ◌∷◌, ◌++◌, Option, Some, None, length, ◌&&◌, not, is_some}
 use Rattle.std.proofs.Common.{ap, ◌∙◌, append-nil}
 use Rattle.std.proofs.lemmas.Bool.{eq-eqb}
 use Rattle.std.proofs.Math.Seq.{drop-append_seam}
-use Rattle.qk_meaning.specs.Value.{Text, Site, Shown, Element, Component, Value, Values, Fields, Int, Ref, Elem, Closure, none, item, end}
+use Rattle.qk_meaning.specs.Value.{Text, Site, Shown, Element, Component, Value, Fields, Ref, Elem, Closure, none, end}
 use Rattle.qk_meaning.specs.World.{Object, Props, Loc, Read, Hook, Instance, World}
 use Rattle.qk_meaning.specs.Parts.{packed}
 use Rattle.qk_meaning.specs.Texts.{integer_text}
@@ -13,11 +13,11 @@ use Rattle.qk_meaning.specs.Running.{Running, Effect, Pure, At_site, Hooking, Ou
 use Rattle.qk_meaning.specs.Evaluation.{entering}
 use Rattle.qk_meaning.specs.Trace.{own_reads}
 use Rattle.qk_meaning.specs.Readings.{app_of}
-use Rattle.qk_meaning.specs.Expansion.{Node, Tagged, Inside, Nodes, no_nodes, node, joined, text_nodes, Visit, expand_app, component_with, expand_item, view_with, wrapped, nothing_given, children_of}
+use Rattle.qk_meaning.specs.Expansion.{Tagged, Inside, Nodes, no_nodes, node, joined, text_nodes, Visit, expand_app, expand_item, view_with, wrapped, nothing_given, children_of}
 use Rattle.qk_meaning.specs.Tree.{heard_by, tree, nodes_given, view_at}
-use Rattle.qk_meaning.specs.Session.{Session, world_of, session_in, nothing_yet, lines_in, runs}
-use Rattle.qk_meaning.specs.Item.{Block, Event, Limits, html_within_limits, block, event, heard, records_of, first_render, first_item, event_item}
-use Rattle.qk_meaning.specs.Execution.{Execution, execution, execute_again, mount, take_or_mount}
+use Rattle.qk_meaning.specs.Session.{Session, session_in, nothing_yet, lines_in, runs}
+use Rattle.qk_meaning.specs.Item.{Block, Event, html_within_limits, block, event, heard, records_of, first_render}
+use Rattle.qk_meaning.specs.Execution.{execution, take_or_mount}
 use Rattle.qk_meaning.specs.Settling.{Spot, due_hook, first_due, is_quiet, pass, round, settled, settled_within}
 use Rattle.qk_first.proofs.Component.{child_values}
 
@@ -35,16 +35,16 @@ expands_view visit lines n false tag attributes v s = refl
 module _ (p : Program) (levels : ℕ) (component : Site) (app : app_of p ≡ Component component)
     (tag : Text) (attributes : Fields) (shows : Bool)
     (rest : ℤ → List Object) (hooks : List Hook) (idle : (log : List Loc) → due_hook log 0 0 hooks ≡ None) (told : ℕ → List Happening) where
-  abbrev view : ℤ → Value
+  abbrev pub view : ℤ → Value
   view v = Elem (Element tag) None [] attributes (packed (child_values shows v))
 
-  abbrev nodes_of : ℤ → Nodes
+  abbrev pub nodes_of : ℤ → Nodes
   nodes_of v = node (Inside [] (node (Tagged tag attributes (child_nodes shows v)) no_nodes)) no_nodes
 
-  abbrev run_in : ℤ → List Loc → List Text → ℕ → List Happening → Hooking → Running
+  abbrev pub run_in : ℤ → List Loc → List Text → ℕ → List Happening → Hooking → Running
   run_in v log lines turns trace hooking = record { heap = Props end ∷ rest v; log = log; lines = lines; turns = turns; trace = trace; locals = end; hooking = hooking }
 
-  abbrev stood : Value → List Read → Instance
+  abbrev pub stood : Value → List Read → Instance
   stood w reads = record { path = []; component = Closure component end false; props = 0; hooks = hooks; view = w; reads = reads }
 
   -- a component whose view is this is expanded to its nodes
@@ -62,10 +62,10 @@ module _ (p : Program) (levels : ℕ) (component : Site) (app : app_of p ≡ Com
   -- ---- a pass over the instance that stands
 
   -- what happens in an execution
-  abbrev happens : ℕ → List Happening
+  abbrev pub happens : ℕ → List Happening
   happens at = Entered (At_site component) ∷ told at
 
-  abbrev session : ℤ → List Loc → List Text → ℕ → List Happening → List Instance → List Instance → Bool → Session
+  abbrev pub session : ℤ → List Loc → List Text → ℕ → List Happening → List Instance → List Instance → Bool → Session
   session v log lines turns trace instances executed mounted = record { running = run_in v log lines turns trace Outside; instances = instances; executed = executed; mounted = mounted }
 
   module _ (again : (v : ℤ) (log : List Loc) (lines : List Text) (turns : ℕ) (trace : List Happening)
@@ -86,8 +86,8 @@ module _ (p : Program) (levels : ℕ) (component : Site) (app : app_of p ≡ Com
     passes w reads v log lines turns trace executed mounted =
         ap (λ (a : Shown). after (expand_app (take_or_mount p levels) lines_in a (session v log lines (suc turns) trace (stood w reads ∷ []) [] false)) (λ nodes. becomes (λ s. record s { instances = s.executed; executed = [] }))) app
         ∙ ap (λ (o : Outcome Session Nodes). after o (λ nodes. becomes (λ s. record s { instances = s.executed; executed = [] })))
-          (expands (take_or_mount p levels) lines_in v (session v log lines (suc turns) trace (stood w reads ∷ []) [] false)
-              (session v log lines turns (trace ++ happens (length log)) (stood w reads ∷ []) (stood (view v) (own_reads (happens (length log))) ∷ []) false) (visits w reads v log lines turns trace))
+        (expands (take_or_mount p levels) lines_in v (session v log lines (suc turns) trace (stood w reads ∷ []) [] false)
+        (session v log lines turns (trace ++ happens (length log)) (stood w reads ∷ []) (stood (view v) (own_reads (happens (length log))) ∷ []) false) (visits w reads v log lines turns trace))
 
     none_due : (w : Value) (reads : List Read) (v : ℤ) (log : List Loc) (lines : List Text) → first_due (record { heap = Props end ∷ rest v; log = log; lines = lines; instances = stood w reads ∷ [] }) ≡ None
     none_due w reads v log lines = ap (λ (o : Option Spot). elim o [ Some spot ↦ Some spot | None ↦ None ]) (idle log)
@@ -111,7 +111,7 @@ module _ (p : Program) (levels : ℕ) (component : Site) (app : app_of p ≡ Com
     -- ---- blocks
 
     module _ (text : ℤ → Text) (fits : (v : ℤ) (s : Running) → html_within_limits (nodes_of v) s ≡ Gives (text v) s) where
-      abbrev shows_block : Bool → ℤ → Block
+      abbrev pub shows_block : Bool → ℤ → Block
       shows_block found_none v = record { none = found_none; lines = []; html = text v }
 
       shown_in : (v : ℤ) (log : List Loc) (reads : List Read) → tree (app_of p) (record { heap = Props end ∷ rest v; log = log; lines = []; instances = stood (view v) reads ∷ [] }) ≡ nodes_of v
@@ -128,10 +128,10 @@ module _ (p : Program) (levels : ℕ) (component : Site) (app : app_of p ≡ Com
 
       -- ---- events
 
-      abbrev world : ℤ → List Loc → List Read → World
+      abbrev pub world : ℤ → List Loc → List Read → World
       world v log reads = record { heap = Props end ∷ rest v; log = log; lines = []; instances = stood (view v) reads ∷ [] }
 
-      unheard : (e : Event) (v : ℤ) (log : List Loc) (reads : List Read) (turns : ℕ)
+      pub unheard : (e : Event) (v : ℤ) (log : List Loc) (reads : List Read) (turns : ℕ)
           → heard_by e.kind e.id (nodes_of v) ≡ None
           → event p levels e (session v log [] turns [] (stood (view v) reads ∷ []) [] false)
           ≡ Gives (shows_block true v) (session v log [] turns [] (stood (view v) reads ∷ []) [] false)
@@ -142,7 +142,7 @@ module _ (p : Program) (levels : ℕ) (component : Site) (app : app_of p ≡ Com
           ∙ gives_block true v log turns [] reads [] false
 
       -- the listener is called, and the session settles
-      heard_at : (e : Event) (f r : Value) (v u : ℤ) (log more : List Loc) (reads : List Read) (turns : ℕ) (trace : List Happening)
+      pub heard_at : (e : Event) (f r : Value) (v u : ℤ) (log more : List Loc) (reads : List Read) (turns : ℕ) (trace : List Happening)
           → heard_by e.kind e.id (nodes_of v) ≡ Some f
           → entering p levels Effect [] f (records_of e) (run_in v log [] (suc (suc turns)) [] Outside) ≡ Gives r (run_in u more [] (suc turns) trace Outside)
           → event p levels e (session v log [] (suc (suc turns)) [] (stood (view v) reads ∷ []) [] false)
@@ -167,9 +167,9 @@ module _ (p : Program) (levels : ℕ) (component : Site) (app : app_of p ≡ Com
         first_pass turns =
             ap (λ (a : Shown). after (expand_app (take_or_mount p levels) lines_in a (session_in nothing_yet (suc turns))) (λ nodes. becomes (λ s. record s { instances = s.executed; executed = [] }))) app
             ∙ ap (λ (o : Outcome Session Nodes). after o (λ nodes. becomes (λ s. record s { instances = s.executed; executed = [] })))
-              (expands (take_or_mount p levels) lines_in k (session_in nothing_yet (suc turns)) (session k [] [] turns (happens 0) [] (stood (view k) (own_reads (happens 0)) ∷ []) true) (mounted_so turns))
+            (expands (take_or_mount p levels) lines_in k (session_in nothing_yet (suc turns)) (session k [] [] turns (happens 0) [] (stood (view k) (own_reads (happens 0)) ∷ []) true) (mounted_so turns))
 
-        renders : (turns : ℕ) → first_render p levels (session_in nothing_yet (suc (suc turns)))
+        pub renders : (turns : ℕ) → first_render p levels (session_in nothing_yet (suc (suc turns)))
             ≡ Gives (shows_block false k) (session k [] [] turns (happens 0 ++ happens 0) (stood (view k) (own_reads (happens 0)) ∷ []) [] false)
         renders turns =
             ap (λ (o : Outcome Session (Unit {0})). after (after o (λ u s. chosen (is_quiet 0 s) (give tt) (settled_within p levels (suc (suc turns))) s)) (λ a. block p levels false)) (first_pass (suc turns))

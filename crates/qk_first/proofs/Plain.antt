@@ -1,13 +1,14 @@
 -- Letters, digits and `-` are written as they stand, and a number has few digits.
-use Rattle.std.specs.Prelude.{◌≡◌, refl, ℕ, zero, suc, ◌+◌, ◌≤◌, ◌<◌, ◌/◌, ◌%◌, ℤ, pos, negsuc, ltb, ◌==◌, Bool, true, false, ◌&&◌, ◌||◌, not, nat_le, List, [], ◌∷◌, ◌++◌, length, IsTrue, codes}
+use Rattle.std.specs.Prelude.{◌≡◌, refl, ℕ, zero, suc, ◌+◌, ◌≤◌, ◌<◌, ◌/◌, ◌%◌, ℤ, pos, negsuc, ltb, ◌==◌, Bool, true, false, ◌&&◌, ◌||◌, not, nat_le, [], ◌∷◌, ◌++◌, length, IsTrue}
 use Rattle.std.proofs.Common.{ap, ◌∙◌, arith}
 use mathlib.Core.Path.{sym, subst}
 use lib.Dec.{eqb→eq, eqb, leb, T}
-use Rattle.std.proofs.lemmas.Bool.{le-leb, false≢true, ltb-true, ltb-false}
+use Rattle.std.proofs.lemmas.Bool.{le-leb, false≢true, ltb-true}
 use Rattle.qk_ast.specs.Characters.{every, is_within, is_small_letter}
 use Rattle.qk_meaning.specs.Value.{Text}
-use Rattle.qk_meaning.specs.Texts.{digits_before, decimal, integer_text}
+use Rattle.qk_meaning.specs.Texts.{digits_before, integer_text}
 use Rattle.qk_meaning.specs.Html.{written, text_char, attribute_char}
+use Rattle.qk_meaning.specs.Output.{printed_char}
 use Rattle.qk_first.proofs.Texts.{left, right, both, denied}
 
 abbrev pub is_plain : ℕ → Bool
@@ -85,12 +86,8 @@ printed_plain [] h = refl
 printed_plain (c ∷ cs) h =
     let k = left (is_plain c) (every is_plain cs) h in
     both (is_printed c) (every is_printed cs)
-      (rw (plain_ne c 92 k refl, plain_ne c 10 k refl, plain_ne c 13 k refl))
-      (printed_plain cs (right (is_plain c) (every is_plain cs) h))
-
--- the same as what is done to each character of a printed text
-abbrev pub printed_char : ℕ → Text
-printed_char c = elim (c == 92) [ true ↦ codes "\\\\" | false ↦ elim (c == 10) [ true ↦ codes "\\n" | false ↦ elim (c == 13) [ true ↦ codes "\\r" | false ↦ c ∷ [] ] ] ]
+    (rw (plain_ne c 92 k refl, plain_ne c 10 k refl, plain_ne c 13 k refl))
+    (printed_plain cs (right (is_plain c) (every is_plain cs) h))
 
 printed_one : (c : ℕ) → is_printed c ≡ true → printed_char c ≡ c ∷ []
 printed_one c h =

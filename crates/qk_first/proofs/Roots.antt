@@ -1,21 +1,19 @@
 -- What the names, the sites and the arrows of a module of the first form are.
-use Rattle.std.specs.Prelude.{◌≡◌, refl, ℕ, Bool, true, false, List, [], ◌∷◌, Option, Some, None, ℤ, codes}
-use Rattle.std.proofs.Common.{ap, ◌∙◌}
+use Rattle.std.specs.Prelude.{◌≡◌, refl, Bool, true, false, List, [], ◌∷◌, Option, Some, ℤ, codes}
+use Rattle.std.proofs.Common.{ap}
 use Rattle.std.proofs.lemmas.Bool.{false≢true}
 use Rattle.qk_ast.specs.First.{First_attribute, Id, On_click}
 use Rattle.qk_meaning.specs.Value.{Text, Site, Component}
-use Rattle.qk_meaning.specs.Texts.{same_text}
 use Rattle.qk_meaning.specs.Names.{is_listed, those_of, each_once}
-use Rattle.qk_meaning.specs.Program.{Program, Code, Root, Framework, Shows}
-use Rattle.qk_meaning.specs.Arrows.{Found_arrow, Marked}
+use Rattle.qk_meaning.specs.Program.{Root, Framework, Shows}
+use Rattle.qk_meaning.specs.Arrows.{Marked}
 use Rattle.qk_meaning.specs.Sites.{Named_module, site_of, code_of, code_from}
 use Rattle.qk_meaning.specs.Roots.{root_of}
-use Rattle.qk_meaning.specs.Uses.{captures_of, free_of}
+use Rattle.qk_meaning.specs.Uses.{free_of}
 use Rattle.qk_meaning.specs.Readings.{program_of, app_of}
 use Rattle.qk_meaning.specs.Making.{root_shown}
 use Rattle.qk_first.proofs.Words.{first_module, body_of, element, bump}
 use Rattle.qk_first.proofs.Texts.{text_own}
-use Rattle.qk_first.proofs.Component.{component_code, bare_code}
 use Rattle.qk_first.proofs.Listener.{listener_code}
 use Rattle.qk_first.proofs.Listings.{Listing, nothing, id_only, click_only, id_click, click_id, has_listener}
 
@@ -58,7 +56,7 @@ module _ (imported : List Text) (n tag : Text) (signal : Option ℤ) (shows : Bo
   pub component_coded : code_of modules component_site ≡ record { file = codes "root"; captures = []; task = false; params = []; body = body_of signal n (element shows n tag attributes) }
   component_coded =
       ap (λ (names : List Text). record { file = codes "root"; captures = each_once [] names; task = false; params = []; body = body_of signal n (element shows n tag attributes) })
-        (none_of (free_of (record { place = 0; scope = []; mark = Marked; params = []; body = body_of signal n (element shows n tag attributes) })))
+      (none_of (free_of (record { place = 0; scope = []; mark = Marked; params = []; body = body_of signal n (element shows n tag attributes) })))
 
 listed_own : (n : Text) → is_listed n (n ∷ []) ≡ true
 listed_own n = rw (text_own n, is_listed)

@@ -1,5 +1,5 @@
 -- Texts of small letters: each letter is its own byte, and nothing in them is decoded or written by name.
-use Rattle.std.specs.Prelude.{◌≡◌, refl, ℕ, ◌≤◌, ◌<◌, ◌==◌, Bool, true, false, ◌&&◌, ◌||◌, not, nat_le, List, [], ◌∷◌, ◌++◌, length, IsTrue, codes, bytes_eq}
+use Rattle.std.specs.Prelude.{◌≡◌, refl, ℕ, ◌≤◌, Bool, true, false, ◌&&◌, ◌||◌, not, nat_le, List, [], ◌∷◌, length, IsTrue, bytes_eq}
 use Rattle.std.specs.Str.{encode_utf8_all}
 use Rattle.std.proofs.Common.{ap, ◌∙◌, arith}
 use mathlib.Core.Path.{sym, subst}
@@ -7,9 +7,9 @@ use mathlib.Core.Logic.{◌⊎◌, inl, inr}
 use lib.Dec.{eqb→eq, eqb, leb, T}
 use Rattle.std.proofs.lemmas.Bool.{eq-eqb, ne_eqb, leb-true, false≢true}
 use Rattle.std.proofs.lemmas.Str.{encode_ascii}
-use Rattle.qk_ast.specs.Characters.{Characters, same, is_one_of, every, is_small_letter, is_front}
-use Rattle.qk_ast.specs.JsxText.{decoded, decoded_after}
-use Rattle.qk_ast.specs.First.{is_short_word, first_tags}
+use Rattle.qk_ast.specs.Characters.{Characters, same, is_one_of, every, is_small_letter}
+use Rattle.qk_ast.specs.JsxText.{decoded}
+use Rattle.qk_ast.specs.First.{is_short_word}
 
 -- ---- tests
 

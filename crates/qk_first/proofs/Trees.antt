@@ -1,18 +1,15 @@
 -- The tree of a module of the first form.
-use Rattle.std.specs.Prelude.{◌≡◌, refl, ℕ, Bool, true, false, List, [], ◌∷◌, Option, Some, None, IsTrue, codes, pos, ℤ}
+use Rattle.std.specs.Prelude.{◌≡◌, refl, List, [], ◌∷◌, Option, Some, None, IsTrue, pos, ℤ}
 use Rattle.std.specs.Str.{encode_utf8_all}
 use Rattle.std.specs.Char.{encode_utf8}
 use Rattle.std.proofs.Common.{ap, ◌∙◌}
-use mathlib.Core.Path.{sym}
 use denote.Hole.Carrier.{hidden, roll}
-use Rattle.qk_ast.specs.declared.Module.{Module}
-use Rattle.qk_ast.specs.declared.Expr.{Expr}
 use Rattle.qk_ast.specs.declared.Tag.{Tag}
 use Rattle.qk_ast.specs.declared.Jsx.{Jsx, roll-Jsx}
 use Rattle.qk_ast.specs.declared.Body.TheBlock.{shape-the_row-Expr-0, hidden-the_row-Expr-0, shape-the_row-Link-5, hidden-the_row-Link-5, shape-the_row-Arrow-6, hidden-the_row-Arrow-6, shape-the_row-Jsx-7, hidden-the_row-Jsx-7}
 use Rattle.qk_ast.specs.Characters.{Characters, is_one_of, number_after}
 use Rattle.qk_ast.specs.Grammar.{Names}
-use Rattle.qk_ast.specs.Tree.{module_tree, names_tree, tag_tree, element_tree, tree}
+use Rattle.qk_ast.specs.Tree.{module_tree, names_tree, tag_tree, element_tree}
 use Rattle.qk_ast.specs.JsxText.{decoded}
 use Rattle.qk_ast.specs.First.{First_text, First_attribute, Id, On_click, Shape, Selfclosing, Empty, Shown, Fits, module_of, attributes_of, element_of, first_tags}
 use Rattle.qk_meaning.specs.Value.{Text}

@@ -4,7 +4,7 @@ use Rattle.qk_ast.specs.declared.Module.{Module}
 use Rattle.qk_ast.specs.declared.Pattern.{Pattern}
 use Rattle.qk_ast.specs.declared.Tag.{Tag}
 use Rattle.qk_ast.specs.declared.Expr.{Expr, Row_of-Expr, end_of-Expr, more_of-Expr, Row_of-Field, end_of-Field, more_of-Field, end_of-Link, more_of-Link, end_of-Arrow, more_of-Arrow, end_of-Jsx, more_of-Jsx}
-use Rattle.qk_ast.specs.declared.Stmt.{Stmt, Some', Row_of-Stmt, end_of-Stmt, more_of-Stmt}
+use Rattle.qk_ast.specs.declared.Stmt.{Stmt, Some', end_of-Stmt, more_of-Stmt}
 use Rattle.qk_ast.specs.declared.Link.{Link}
 use Rattle.qk_ast.specs.declared.Jsx.{Jsx, Jsx'}
 use Rattle.qk_ast.specs.declared.Body.{Body, Block' as Body_block'}
