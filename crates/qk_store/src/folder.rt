@@ -64,11 +64,11 @@ impl<'a, R: Files> Store for DirStore<'a, R> {
             make_folder(self.rt, inner.as_str());
         }
         match write_file(self.rt, path.as_str(), bytes) {
-            Ok(()) => Ok(()),
-            Err(_) => {
+            Err(StoreFault::Failed) => {
                 self.faults = one_more(self.faults);
                 Err(StoreFault::Failed)
             }
+            answer => answer,
         }
     }
 }
@@ -102,7 +102,7 @@ fn read_file<R: Files>(rt: &R, alloc: Global, path: &str, most: usize) -> Result
     }
 }
 
-// Nothing was changed, so want of memory is told as such.
+// Where a file is opened or read nothing has changed, so want of memory is told as such.
 fn fault_of(error: io::Error) -> StoreFault {
     match error.kind() {
         ErrorKind::OutOfMemory => StoreFault::Memory,
@@ -110,12 +110,12 @@ fn fault_of(error: io::Error) -> StoreFault {
     }
 }
 
-// That it stands there is no error; any other one is met again by the write.
+// That it stands there is no error, and any other one is met again by the write.
 fn make_folder<R: Files>(rt: &R, path: &str) {
     let _ = fs::create_dir(rt, path);
 }
 
-fn write_file<R: Files>(rt: &R, path: &str, bytes: &[u8]) -> io::Result<()> {
-    let mut file = fs::create(rt, path)?;
-    write_whole(&mut file, bytes)
+fn write_file<R: Files>(rt: &R, path: &str, bytes: &[u8]) -> Result<(), StoreFault> {
+    let mut file = fs::create(rt, path).map_err(fault_of)?;
+    write_whole(&mut file, bytes).map_err(|_| StoreFault::Failed)
 }

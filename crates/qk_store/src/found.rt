@@ -2,6 +2,8 @@ ghost use Rattle.std.specs.Prelude.{◌≡◌};
 ghost use Rattle.qk_store.specs.declared.found.StoreFault.TheVariants.{Memory};
 
 use std::alloc::{AllocError, AllocFailed};
+use std::error::Error;
+use std::fmt;
 
 /// What a read found under a name.
 #[derive(Debug, PartialEq, Eq, Drop)]
@@ -30,6 +32,17 @@ pub enum StoreFault {
     /// Memory ran out, and nothing has changed.
     Memory,
 }
+
+impl fmt::Display for StoreFault {
+    fn fmt<W: fmt::Write>(&self, f: &mut fmt::Formatter<W>) -> fmt::Result {
+        match self {
+            StoreFault::Failed => write!(f, "the store failed"),
+            StoreFault::Memory => write!(f, "out of memory"),
+        }
+    }
+}
+
+impl Error for StoreFault {}
 
 impl From<AllocError> for StoreFault {
     ghost from_gives = { λ _ e. e ≡ Memory };

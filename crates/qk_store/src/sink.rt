@@ -5,6 +5,8 @@ ghost use Rattle.qk_store.specs.Causes.{HasCause};
 ghost use Rattle.qk_store.specs.Pieces.{with_piece, AppendsFront};
 
 use std::alloc::{AllocError, AllocFailed};
+use std::error::Error;
+use std::fmt;
 
 /// Why a sink refused a piece.
 #[derive(Clone, Copy, Debug, PartialEq, Eq)]
@@ -14,6 +16,17 @@ pub enum SinkFault {
     /// Memory ran out, and nothing was put.
     Memory,
 }
+
+impl fmt::Display for SinkFault {
+    fn fmt<W: fmt::Write>(&self, f: &mut fmt::Formatter<W>) -> fmt::Result {
+        match self {
+            SinkFault::Failed => write!(f, "the sink failed"),
+            SinkFault::Memory => write!(f, "out of memory"),
+        }
+    }
+}
+
+impl Error for SinkFault {}
 
 impl From<AllocError> for SinkFault {
     ghost from_gives = { λ _ e. e ≡ Memory };
