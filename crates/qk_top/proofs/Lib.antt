@@ -1,3 +1,5 @@
+pub mod Shapes
+pub mod Outputs
 pub mod Plays
 pub mod Shown
 pub mod Numbers

@@ -8,11 +8,11 @@ use Rattle.qk_meaning.specs.Output.{line}
 use Rattle.qk_first.specs.Counter.{Counter, attributes_html, hears, moved}
 use Rattle.qk_top.specs.declared.shape.Counter.{Counter as Kept}
 
-abbrev id_among : Option Text → List First_attribute
+abbrev pub id_among : Option Text → List First_attribute
 id_among None = []
 id_among (Some id) = Id id ∷ []
 
-abbrev listener_among : Option Bool → List First_attribute
+abbrev pub listener_among : Option Bool → List First_attribute
 listener_among None = []
 listener_among (Some up) = On_click up ∷ []
 

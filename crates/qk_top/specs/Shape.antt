@@ -3,16 +3,9 @@ use Rattle.std.specs.Prelude.{◌≡◌, ℕ, Bool, true, false, List, [], ◌�
 use Rattle.std.specs.Option.{option_map}
 use Rattle.qk_ast.specs.declared.Expr.{Expr}
 use Rattle.qk_ast.specs.declared.Field.{Field}
-use Rattle.qk_ast.specs.First.{First_attribute, Id, On_click}
 use Rattle.qk_meaning.specs.Value.{Text}
 use Rattle.qk_meaning.specs.Texts.{same_text}
 
 -- the first attribute of this name
 abbrev pub attribute_named : Text → List Field → Option Field
 attribute_named name attributes = find (λ a. same_text a.key name) attributes
-
--- the id of a counter's element
-abbrev pub first_id : List First_attribute → Option Text
-first_id [] = None
-first_id (Id id ∷ more) = Some id
-first_id (On_click up ∷ more) = first_id more

@@ -1,22 +1,21 @@
 -- What the program keeps of a counter.
-use Rattle.std.specs.Prelude.{◌≡◌, ℤ, Bool, true, false, List, [], ◌∷◌, Some, None, codes}
+use Rattle.std.specs.Prelude.{◌≡◌, ◌≤◌, ℤ, Bool, true, false, List, [], ◌∷◌, Some, None, codes}
+use lib.Signed.{mag}
 use Rattle.std.specs.Option.{option_copied}
 use Rattle.qk_ast.specs.declared.Expr.{Expr}
 use Rattle.qk_ast.specs.declared.Expr.TheVariants as e
 use Rattle.qk_ast.specs.declared.Body.TheVariants as b
 use Rattle.qk_ast.specs.declared.Field.{Field}
 use Rattle.qk_meaning.specs.Value.{Text}
-use Rattle.qk_first.specs.Counter.{Counter, listener}
+use Rattle.qk_first.specs.Counter.{Counter, first_output}
 use Rattle.qk_top.specs.declared.shape.Counter.{Counter as Kept}
-use Rattle.qk_top.specs.Shape.{attribute_named, first_id}
+use Rattle.qk_top.specs.Shape.{attribute_named}
+use Rattle.qk_top.specs.Blocks.{counter_in, played_text}
 
--- what is kept stands for the counter
-pub record StandsFor (kept : Kept) (counter : Counter) : Type 0 where
-  pub tag : kept.tag.now ≡ counter.tag
-  pub id : option_copied kept.id ≡ first_id counter.attributes
-  pub counts_up : kept.counts_up ≡ listener counter.attributes
-  pub initial : kept.initial ≡ counter.initial
-  pub shows : kept.shows ≡ counter.shows
+-- what is kept is played as this counter
+pub record PlaysAs (kept : Kept) (counter : Counter) : Type 0 where
+  pub printed : (ids : List Text) → played_text (counter_in kept) ids ≡ first_output counter ids
+  pub small : mag kept.initial ≤ 1000000
 
 abbrev pub has_child : List Expr → Bool
 has_child [] = false

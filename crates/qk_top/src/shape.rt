@@ -5,7 +5,7 @@ ghost use Rattle.qk_ast.specs.declared.Link.TheVariants as l;
 ghost use Rattle.qk_ast.specs.declared.Body.TheVariants as b;
 ghost use Rattle.qk_ast.specs.declared.Stmt.TheVariants as s;
 ghost use Rattle.qk_ast.specs.declared.Tag.TheVariants as t;
-ghost use Rattle.qk_ast.specs.declared.Jsx.{out-Jsx};
+ghost use Rattle.qk_ast.specs.declared.Jsx.{out-Jsx, roll-Jsx};
 ghost use Rattle.qk_top.specs.Standing.{KeepsElement};
 ghost use Rattle.qk_top.specs.Shape.{attribute_named};
 
