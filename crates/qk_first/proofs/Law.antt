@@ -18,10 +18,8 @@ use Rattle.qk_meaning.specs.Running.{Running, Mode, Pure, Effect, At_site, Enter
 use Rattle.qk_meaning.specs.Setting.{setting_of}
 use Rattle.qk_meaning.specs.Evaluation.{entered, entering, field_values}
 use Rattle.qk_meaning.specs.Readings.{program_of}
-use Rattle.qk_meaning.specs.Run.{Entry, Run}
-use Rattle.qk_meaning.specs.Output.{output}
-use Rattle.qk_first.specs.Counter.{Counter, counter_of, initial_of, is_shown, first_output}
-use Rattle.qk_first.specs.Laws.{click, FirstRun}
+use Rattle.qk_first.specs.Counter.{Counter, counter_of, initial_of, is_shown}
+use Rattle.qk_first.specs.Laws.{RunsAsCounter, FirstRun}
 use Rattle.qk_first.proofs.Words.{attribute_pairs, field_row, element, first_module}
 use Rattle.qk_first.proofs.Texts.{left, right, IsWord, word, text_own}
 use Rattle.qk_first.proofs.Imports.{no_app, not_hook, hook_listed}
@@ -160,16 +158,10 @@ no_listener click_only h = absurd (false≢true h)
 no_listener (id_click w) h = absurd (false≢true h)
 no_listener (click_id w) h = absurd (false≢true h)
 
--- the run where the one module is this one
-record RunsIn (m : Module) (c : Counter) (ids : List Text) : Type 0 where
-  entries : List Entry
-  run : Run (program_of ((codes "root", m) ∷ [])) (λ w. w) (map click ids) entries
-  prints : output (program_of ((codes "root", m) ∷ [])) entries ≡ first_output c ids
-
 runs_in : (names : List Text) (n tag : Text) (initial : Option Characters) {attributes : List First_attribute} (shape : Shape) (list : Listing attributes) (tagged : IsTag tag) (w : IsWord n)
     → is_listed (codes "App") names ≡ false → (qwik : List Characters) → IsTrue (state_fits initial qwik attributes shape) → (IsTrue (is_one_of (codes "useSignal") qwik) → is_listed (codes "useSignal") names ≡ true)
     → (ids : List Text) → length ids ≤ 65536
-    → RunsIn (first_module names n (signal_of initial) (element (is_shown shape) n tag attributes)) (record { tag = tag; attributes = attributes; initial = initial_of initial; shows = is_shown shape }) ids
+    → RunsAsCounter (first_module names n (signal_of initial) (element (is_shown shape) n tag attributes)) (record { tag = tag; attributes = attributes; initial = initial_of initial; shows = is_shown shape }) ids
 runs_in names n tag (Some digits) shape list tagged w other qwik fits hooked ids room =
     let small = leb-true (number_after 10 0 digits) 1000000 (left _ _ fits) in
     let r = with_signal names n tag (number_after 10 0 digits) (is_shown shape) list tagged w 47 other (hooked (right _ _ fits)) ids (omega arith) in
@@ -185,11 +177,6 @@ runs_in names n tag None Shown list tagged w other qwik fits hooked ids room = a
 pub first_runs : FirstRun
 first_runs f fits ids room =
     let qwik = left (are_qwik_names (names_of f.imported)) (is_distinct (names_of f.imported)) (left _ _ fits.qwik) in
-    let r = runs_in (names_tree f.imported) f.name f.tag f.initial f.shape (listing f.attributes fits.attributed) (tag_holds f.tag fits.tagged) (word f.name (left _ _ (left _ _ fits.named)))
-    (no_app f.imported qwik) (names_of f.imported) fits.state (hook_listed f.imported) ids room in
-    let e = sym (module_is f fits) in
-    record {
-      entries = r.entries;
-      run = subst (λ (m : Module). Run (program_of ((codes "root", m) ∷ [])) (λ w. w) (map click ids) r.entries) e r.run;
-      prints = subst (λ (m : Module). output (program_of ((codes "root", m) ∷ [])) r.entries ≡ first_output (counter_of f) ids) e r.prints;
-    }
+    subst (λ (m : Module). RunsAsCounter m (counter_of f) ids) (sym (module_is f fits))
+    (runs_in (names_tree f.imported) f.name f.tag f.initial f.shape (listing f.attributes fits.attributed) (tag_holds f.tag fits.tagged) (word f.name (left _ _ (left _ _ fits.named)))
+    (no_app f.imported qwik) (names_of f.imported) fits.state (hook_listed f.imported) ids room)

@@ -54,17 +54,20 @@ listener_is (On_click up ∷ more) = refl
 
 module _ (p : Program) (levels : ℕ) (c : Counter) (component site : Site) (n : Text) (list : Listing c.attributes) (tagged : IsTag c.tag) (app : app_of p ≡ Component component)
     (rest : ℤ → List Object) (hooks : List Hook) (idle : (log : List Loc) → due_hook log 0 0 hooks ≡ None) (told : ℕ → List Happening) where
+  abbrev page : passes.Page
+  page = record { component = component; tag = c.tag; attributes = attribute_fields site n c.attributes; shows = c.shows; rest = rest; hooks = hooks; told = told }
+
   abbrev run_in : ℤ → List Loc → ℕ → List Happening → Hooking → Running
-  run_in v log turns trace hooking = passes.run_in p levels component app c.tag (attribute_fields site n c.attributes) c.shows rest hooks idle told v log [] turns trace hooking
+  run_in v log turns trace hooking = passes.run_in p levels page app idle v log [] turns trace hooking
 
   abbrev view : ℤ → Value
-  view v = passes.view p levels component app c.tag (attribute_fields site n c.attributes) c.shows rest hooks idle told v
+  view v = passes.view p levels page app idle v
 
   abbrev happens : ℕ → List Happening
-  happens at = passes.happens p levels component app c.tag (attribute_fields site n c.attributes) c.shows rest hooks idle told at
+  happens at = passes.happens p levels page app idle at
 
   abbrev world : ℤ → List Loc → List Read → World
-  world v log reads = record { heap = Props end ∷ rest v; log = log; lines = []; instances = passes.stood p levels component app c.tag (attribute_fields site n c.attributes) c.shows rest hooks idle told (view v) reads ∷ [] }
+  world v log reads = record { heap = Props end ∷ rest v; log = log; lines = []; instances = passes.stood p levels page app idle (view v) reads ∷ [] }
 
   abbrev limits : Limits
   limits = record { turns = 100; levels = levels }
@@ -97,7 +100,7 @@ module _ (p : Program) (levels : ℕ) (c : Counter) (component site : Site) (n :
     unheard id ids k v log reads unfound silent r = record {
       entries = Played (record { none = true; lines = []; html = first_html c v }) (world v log reads) ∷ r.entries;
       run = played limits (record { none = true; lines = []; html = first_html c v }) (session_in (world v log reads) 100)
-          (passes.unheard p levels component app c.tag (attribute_fields site n c.attributes) c.shows rest hooks idle told does.again (first_html c) (fits c site n list tagged) (event_of id) v log reads 100 (heard_is c site n id list v ∙ unfound))
+          (passes.unheard p levels page app idle does.again (first_html c) (fits c site n list tagged) (event_of id) v log reads 100 (heard_is c site n id list v ∙ unfound))
           r.run;
       prints = ap (λ (t : Text). t ++ output_from p (suc k) r.entries) (block_is c p k true v (world v log reads) (printed_is v))
           ∙ ap (λ (t : Text). (item_line k ++ (line (codes "none") ++ html_line c v)) ++ t) r.prints
@@ -116,8 +119,8 @@ module _ (p : Program) (levels : ℕ) (c : Counter) (component site : Site) (n :
         record {
           entries = Played (record { none = false; lines = []; html = first_html c u }) (world u behind next) ∷ r.entries;
           run = played limits (record { none = false; lines = []; html = first_html c u })
-              (passes.session p levels component app c.tag (attribute_fields site n c.attributes) c.shows rest hooks idle told u behind [] 98 (trace log ++ happens (length behind)) (passes.stood p levels component app c.tag (attribute_fields site n c.attributes) c.shows rest hooks idle told (view u) next ∷ []) [] false)
-              (passes.heard_at p levels component app c.tag (attribute_fields site n c.attributes) c.shows rest hooks idle told does.again (first_html c) (fits c site n list tagged)
+              (passes.session p levels page app idle u behind [] 98 (trace log ++ happens (length behind)) (passes.stood p levels page app idle (view u) next ∷ []) [] false)
+              (passes.heard_at p levels page app idle does.again (first_html c) (fits c site n list tagged)
               (event_of id) (own_listener site n) (Int v) v u log behind reads 98 (trace log) (heard_is c site n id list v ∙ found) (does.counts listens v (records_of (event_of id)) log 99 stays))
               r.run;
           prints = ap (λ (t : Text). t ++ output_from p (suc k) r.entries) (block_is c p k false u (world u behind next) (printed_is u))
@@ -164,8 +167,8 @@ module _ (p : Program) (levels : ℕ) (c : Counter) (component site : Site) (n :
         record {
           entries = Played (record { none = false; lines = []; html = first_html c c.initial }) (world c.initial [] (own_reads (happens 0))) ∷ r.entries;
           run = rendered limits (record { none = false; lines = []; html = first_html c c.initial })
-              (passes.session p levels component app c.tag (attribute_fields site n c.attributes) c.shows rest hooks idle told c.initial [] [] 98 (happens 0 ++ happens 0) (passes.stood p levels component app c.tag (attribute_fields site n c.attributes) c.shows rest hooks idle told (view c.initial) (own_reads (happens 0)) ∷ []) [] false)
-              (passes.renders p levels component app c.tag (attribute_fields site n c.attributes) c.shows rest hooks idle told does.again (first_html c) (fits c site n list tagged) c.initial mounts 98)
+              (passes.session p levels page app idle c.initial [] [] 98 (happens 0 ++ happens 0) (passes.stood p levels page app idle (view c.initial) (own_reads (happens 0)) ∷ []) [] false)
+              (passes.renders p levels page app idle does.again (first_html c) (fits c site n list tagged) c.initial mounts 98)
               r.run;
           prints = ap (λ (t : Text). t ++ output_from p 1 r.entries) (block_is c p 0 false c.initial (world c.initial [] (own_reads (happens 0))) (printed_is c.initial))
               ∙ ap (λ (t : Text). (item_line 0 ++ html_line c c.initial) ++ t) r.prints;
