@@ -17,22 +17,23 @@ use Rattle.qk_meaning.specs.Running.{Running, Pure, At_site, Hooking, Mounting, 
 use Rattle.qk_meaning.specs.Setting.{Entering, Setting, captures}
 use Rattle.qk_meaning.specs.Making.{made_function, made, made_markup}
 use Rattle.qk_meaning.specs.Evaluation.{entered, field_values, values, markup}
-use Rattle.qk_first.proofs.Words.{attribute_pairs, field_row, children, row, element, with_signal, without_signal}
+use Rattle.qk_first.proofs.Texts.{text_own}
+use Rattle.qk_first.proofs.Words.{root, listener_site, attribute_pairs, field_row, children, row, element, with_signal, without_signal}
 use Rattle.qk_first.proofs.Listener.{listener_code, value_in}
 
 -- the code of the component
-abbrev pub component_code : Text → Text → ℤ → Jsx → Code
-component_code file n k jsx = record { file = file; captures = []; task = false; params = []; body = with_signal n k jsx }
+abbrev pub component_code : Text → ℤ → Jsx → Code
+component_code n k jsx = record { file = root; captures = []; task = false; params = []; body = with_signal n k jsx }
 
 -- the same without a signal
-abbrev pub bare_code : Text → Jsx → Code
-bare_code file jsx = record { file = file; captures = []; task = false; params = []; body = without_signal jsx }
+abbrev pub bare_code : Jsx → Code
+bare_code jsx = record { file = root; captures = []; task = false; params = []; body = without_signal jsx }
 
--- the attributes that the element has, where the listener has this site and the signal this address
-abbrev pub attribute_fields : Site → Text → List First_attribute → Fields
-attribute_fields site n [] = end
-attribute_fields site n (Id id ∷ more) = field (codes "id") (Words id) (attribute_fields site n more)
-attribute_fields site n (On_click up ∷ more) = field (codes "onClick$") (Closure site (field n (Ref 1) end) false) (attribute_fields site n more)
+-- the attributes that the element has, where the signal has address 1
+abbrev pub attribute_fields : Text → List First_attribute → Fields
+attribute_fields n [] = end
+attribute_fields n (Id id ∷ more) = field (codes "id") (Words id) (attribute_fields n more)
+attribute_fields n (On_click up ∷ more) = field (codes "onClick$") (Closure listener_site (field n (Ref 1) end) false) (attribute_fields n more)
 
 abbrev pub child_values : Bool → ℤ → List Value
 child_values true v = Int v ∷ []
@@ -43,9 +44,12 @@ abbrev pub reads_told : Bool → ℕ → List Happening
 reads_told true at = Did_read (record { loc = value_in 1; at = at }) ∷ []
 reads_told false at = []
 
-module _ (p : Program) (enter : Entering) (file n : Text) (site : Site) (own : same_text n n ≡ true) where
+module _ (p : Program) (enter : Entering) (n : Text) where
+  own : same_text n n ≡ true
+  own = text_own n
+
   abbrev pub here : Setting
-  here = record { program = p; enter = enter; mode = Pure; running = []; file = file; tracks = false }
+  here = record { program = p; enter = enter; mode = Pure; running = []; file = root; tracks = false }
 
   abbrev pub counting : ℤ → List Loc → List Text → ℕ → List Happening → Hooking → Running
   counting v log lines turns trace hooking = record { heap = Props end ∷ Signal (Int v) ∷ []; log = log; lines = lines; turns = turns; trace = trace; locals = field n (Ref 1) end; hooking = hooking }
@@ -61,9 +65,9 @@ module _ (p : Program) (enter : Entering) (file n : Text) (site : Site) (own : s
   shows_children true v log lines turns trace hooking = rw (own, value_own (Ref 1))
   shows_children false v log lines turns trace hooking = rw append-nil
 
-  module _ (makes : (s : Site) (scope : Fields) → p.makes s scope ≡ Closure s scope false) (sited : p.site file 1 ≡ site) (up : Bool) (coded : p.code site ≡ listener_code file n up) where
+  module _ (makes : (s : Site) (scope : Fields) → p.makes s scope ≡ Closure s scope false) (sited : p.site root 1 ≡ listener_site) (up : Bool) (coded : p.code listener_site ≡ listener_code n up) where
     abbrev pub own_listener : Value
-    own_listener = Closure site (field n (Ref 1) end) false
+    own_listener = Closure listener_site (field n (Ref 1) end) false
 
     named_weight : weight_of_named (captures here) (field n (Ref 1) end) n ≡ 1
     named_weight = rw (own, weight_of_named)
@@ -79,10 +83,10 @@ module _ (p : Program) (enter : Entering) (file n : Text) (site : Site) (own : s
 
     makes_listener : (v : ℤ) (log : List Loc) (lines : List Text) (turns : ℕ) (trace : List Happening) (hooking : Hooking)
         → made_function here 1 (counting v log lines turns trace hooking) ≡ Gives own_listener (counting v log lines turns trace hooking)
-    makes_listener v log lines turns trace hooking = rw (sited, makes site (field n (Ref 1) end), listener_weight, listener_depth)
+    makes_listener v log lines turns trace hooking = rw (sited, makes listener_site (field n (Ref 1) end), listener_weight, listener_depth)
 
     pub gives_fields : (attributes : List First_attribute) (v : ℤ) (log : List Loc) (lines : List Text) (turns : ℕ) (trace : List Happening) (hooking : Hooking)
-        → field_values (field_row (attribute_pairs n attributes)) here (counting v log lines turns trace hooking) ≡ Gives (attribute_fields site n attributes) (counting v log lines turns trace hooking)
+        → field_values (field_row (attribute_pairs n attributes)) here (counting v log lines turns trace hooking) ≡ Gives (attribute_fields n attributes) (counting v log lines turns trace hooking)
     gives_fields [] v log lines turns trace hooking = refl
     gives_fields (Id id ∷ more) v log lines turns trace hooking = rw (gives_fields more v log lines turns trace hooking)
     gives_fields (On_click true ∷ more) v log lines turns trace hooking = rw (makes_listener v log lines turns trace hooking, gives_fields more v log lines turns trace hooking)
@@ -98,30 +102,30 @@ module _ (p : Program) (enter : Entering) (file n : Text) (site : Site) (own : s
     pub light : (v : ℤ) → nat_le (weight (captures here) (view tag shows attributes v)) 65536 ≡ true
     pub flat : (v : ℤ) → nat_le (depth (captures here) (view tag shows attributes v)) 32 ≡ true
 
-  module _ (tag : Text) (shows : Bool) (attributes : List First_attribute) (makes : Makes tag shows (attribute_fields site n attributes))
+  module _ (tag : Text) (shows : Bool) (attributes : List First_attribute) (makes : Makes tag shows (attribute_fields n attributes))
       (fields : (v : ℤ) (log : List Loc) (lines : List Text) (turns : ℕ) (trace : List Happening) (hooking : Hooking)
-      → field_values (field_row (attribute_pairs n attributes)) here (counting v log lines turns trace hooking) ≡ Gives (attribute_fields site n attributes) (counting v log lines turns trace hooking)) where
-    makes_element : (v : ℤ) (s : Running) → made_markup here (Tag.Element tag) (attribute_fields site n attributes) (child_values shows v) s ≡ Gives (view tag shows (attribute_fields site n attributes) v) s
+      → field_values (field_row (attribute_pairs n attributes)) here (counting v log lines turns trace hooking) ≡ Gives (attribute_fields n attributes) (counting v log lines turns trace hooking)) where
+    makes_element : (v : ℤ) (s : Running) → made_markup here (Tag.Element tag) (attribute_fields n attributes) (child_values shows v) s ≡ Gives (view tag shows (attribute_fields n attributes) v) s
     makes_element v s = rw (makes.no_fault v) (ap (λ (w : Value). made here w s) (makes.makes_view v) ∙ rw (makes.light v, makes.flat v))
 
     shows_markup : (v : ℤ) (log : List Loc) (lines : List Text) (turns : ℕ) (trace : List Happening) (hooking : Hooking)
-        → markup (element shows n tag attributes) here (counting v log lines turns trace hooking) ≡ Gives (view tag shows (attribute_fields site n attributes) v) (counting v log lines turns (trace ++ reads_told shows (length log)) hooking)
+        → markup (element shows n tag attributes) here (counting v log lines turns trace hooking) ≡ Gives (view tag shows (attribute_fields n attributes) v) (counting v log lines turns (trace ++ reads_told shows (length log)) hooking)
     shows_markup v log lines turns trace hooking =
         rw (fields v log lines turns trace hooking, shows_children shows v log lines turns trace hooking, makes_element v (counting v log lines turns (trace ++ reads_told shows (length log)) hooking))
 
-    module _ (k : ℤ) (hook_root : p.root file (codes "useSignal") ≡ Framework (codes "useSignal")) (not_hook : same_text n (codes "useSignal") ≡ false) where
+    module _ (k : ℤ) (hook_root : p.root root (codes "useSignal") ≡ Framework (codes "useSignal")) (not_hook : same_text n (codes "useSignal") ≡ false) where
       pub mounts : (component : Site) (arguments : List Value) (turns : ℕ) (trace : List Happening) (path : List Step) (before : List Instance)
-          → entered (At_site component) (component_code file n k (element shows n tag attributes)) here end arguments
+          → entered (At_site component) (component_code n k (element shows n tag attributes)) here end arguments
           (record { heap = Props end ∷ []; log = []; lines = []; turns = suc turns; trace = trace; locals = end; hooking = Mounting path before [] })
-          ≡ Gives (view tag shows (attribute_fields site n attributes) k)
+          ≡ Gives (view tag shows (attribute_fields n attributes) k)
           (record { heap = Props end ∷ Signal (Int k) ∷ []; log = []; lines = []; turns = turns; trace = (trace ++ Entered (At_site component) ∷ []) ++ reads_told shows 0; locals = end; hooking = Mounting path before (Kept (Ref 1) ∷ []) })
       mounts component arguments turns trace path before =
           rw (not_hook, hook_root, replaced_own Undefined (Ref 1), shows_markup k [] [] turns (trace ++ Entered (At_site component) ∷ []) (Mounting path before (Kept (Ref 1) ∷ [])))
 
       pub again : (component : Site) (arguments : List Value) (v : ℤ) (log : List Loc) (lines : List Text) (turns : ℕ) (trace : List Happening)
-          → entered (At_site component) (component_code file n k (element shows n tag attributes)) here end arguments
+          → entered (At_site component) (component_code n k (element shows n tag attributes)) here end arguments
           (record { heap = Props end ∷ Signal (Int v) ∷ []; log = log; lines = lines; turns = suc turns; trace = trace; locals = end; hooking = Again (Kept (Ref 1) ∷ []) })
-          ≡ Gives (view tag shows (attribute_fields site n attributes) v)
+          ≡ Gives (view tag shows (attribute_fields n attributes) v)
           (record { heap = Props end ∷ Signal (Int v) ∷ []; log = log; lines = lines; turns = turns; trace = (trace ++ Entered (At_site component) ∷ []) ++ reads_told shows (length log); locals = end; hooking = Again [] })
       again component arguments v log lines turns trace =
           rw (not_hook, hook_root, replaced_own Undefined (Ref 1), shows_markup v log lines turns (trace ++ Entered (At_site component) ∷ []) (Again []))
@@ -131,13 +135,13 @@ module _ (p : Program) (enter : Entering) (file n : Text) (site : Site) (own : s
   abbrev pub simply : List Object → List Loc → List Text → ℕ → List Happening → Hooking → Running
   simply heap log lines turns trace hooking = record { heap = heap; log = log; lines = lines; turns = turns; trace = trace; locals = end; hooking = hooking }
 
-  module _ (tag : Text) (attributes : List First_attribute) (makes : Makes tag false (attribute_fields site n attributes))
-      (fields : (s : Running) → field_values (field_row (attribute_pairs n attributes)) here s ≡ Gives (attribute_fields site n attributes) s) where
-    makes_bare_element : (s : Running) → made_markup here (Tag.Element tag) (attribute_fields site n attributes) [] s ≡ Gives (view tag false (attribute_fields site n attributes) (pos 0)) s
+  module _ (tag : Text) (attributes : List First_attribute) (makes : Makes tag false (attribute_fields n attributes))
+      (fields : (s : Running) → field_values (field_row (attribute_pairs n attributes)) here s ≡ Gives (attribute_fields n attributes) s) where
+    makes_bare_element : (s : Running) → made_markup here (Tag.Element tag) (attribute_fields n attributes) [] s ≡ Gives (view tag false (attribute_fields n attributes) (pos 0)) s
     makes_bare_element s = rw (makes.no_fault (pos 0)) (ap (λ (w : Value). made here w s) (makes.makes_view (pos 0)) ∙ rw (makes.light (pos 0), makes.flat (pos 0)))
 
     pub stays : (component : Site) (arguments : List Value) (heap : List Object) (log : List Loc) (lines : List Text) (turns : ℕ) (trace : List Happening) (hooking : Hooking)
-        → entered (At_site component) (bare_code file (element false n tag attributes)) here end arguments (simply heap log lines (suc turns) trace hooking)
-        ≡ Gives (view tag false (attribute_fields site n attributes) (pos 0)) (simply heap log lines turns (trace ++ Entered (At_site component) ∷ []) hooking)
+        → entered (At_site component) (bare_code (element false n tag attributes)) here end arguments (simply heap log lines (suc turns) trace hooking)
+        ≡ Gives (view tag false (attribute_fields n attributes) (pos 0)) (simply heap log lines turns (trace ++ Entered (At_site component) ∷ []) hooking)
     stays component arguments heap log lines turns trace hooking =
         rw (fields (simply heap log lines turns (trace ++ Entered (At_site component) ∷ []) hooking), makes_bare_element (simply heap log lines turns (trace ++ Entered (At_site component) ∷ []) hooking))

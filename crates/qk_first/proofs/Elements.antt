@@ -6,7 +6,7 @@ use Rattle.std.proofs.lemmas.List.{length-append}
 use Rattle.std.proofs.lemmas.Bool.{le-leb}
 use Rattle.qk_ast.specs.Characters.{Characters, is_one_of, every, is_small_letter}
 use Rattle.qk_ast.specs.First.{First_attribute, first_tags}
-use Rattle.qk_meaning.specs.Value.{Text, Site, Value, Ref, Closure, Fields, end, field}
+use Rattle.qk_meaning.specs.Value.{Text, Value, Ref, Closure, Fields, end, field}
 use Rattle.qk_meaning.specs.Texts.{same_text, integer_text}
 use Rattle.qk_meaning.specs.Expansion.{Tagged, Inside, Nodes, no_nodes, node, joined, text_nodes}
 use Rattle.qk_meaning.specs.Html as Html
@@ -19,6 +19,7 @@ use Rattle.qk_meaning.specs.Doing.{Gives, chosen, give}
 use Rattle.qk_meaning.specs.Running.{Running, fault}
 use Rattle.qk_meaning.specs.Fault.{TreeTooLarge, HtmlTooLong}
 use Rattle.qk_first.specs.Counter.{Counter, has_id, attributes_html, shown_number, first_html}
+use Rattle.qk_first.proofs.Words.{listener_site}
 use Rattle.qk_first.proofs.Texts.{among, IsWord}
 use Rattle.qk_first.proofs.Listings.{Listing, nothing, id_only, click_only, id_click, click_id, has_listener}
 use Rattle.qk_first.proofs.Plain.{plain_letters, number_plain, number_short, written_text, written_attribute, is_printed, printed_plain, every_append}
@@ -57,12 +58,12 @@ child_html false v = refl
 attribute_is : (id : Text) → IsWord id → written Html.attribute_char id ≡ id
 attribute_is id w = written_attribute id (plain_letters id w.letters)
 
-fields_html : (site : Site) (n : Text) {attributes : List First_attribute} → Listing attributes → Html.attributes_html (attribute_fields site n attributes) ≡ attributes_html attributes
-fields_html site n nothing = refl
-fields_html site n (id_only {id = id} w) = ap (λ (t : Text). (codes " id=\"" ++ (t ++ codes "\"")) ++ []) (attribute_is id w)
-fields_html site n click_only = refl
-fields_html site n (id_click {id = id} w) = ap (λ (t : Text). (codes " id=\"" ++ (t ++ codes "\"")) ++ []) (attribute_is id w)
-fields_html site n (click_id {id = id} w) = ap (λ (t : Text). (codes " id=\"" ++ (t ++ codes "\"")) ++ []) (attribute_is id w)
+fields_html : (n : Text) {attributes : List First_attribute} → Listing attributes → Html.attributes_html (attribute_fields n attributes) ≡ attributes_html attributes
+fields_html n nothing = refl
+fields_html n (id_only {id = id} w) = ap (λ (t : Text). (codes " id=\"" ++ (t ++ codes "\"")) ++ []) (attribute_is id w)
+fields_html n click_only = refl
+fields_html n (id_click {id = id} w) = ap (λ (t : Text). (codes " id=\"" ++ (t ++ codes "\"")) ++ []) (attribute_is id w)
+fields_html n (click_id {id = id} w) = ap (λ (t : Text). (codes " id=\"" ++ (t ++ codes "\"")) ++ []) (attribute_is id w)
 
 short_id : (id : Text) → length id ≤ 8 → length ((codes " id=\"" ++ (id ++ codes "\"")) ++ []) ≤ 14
 short_id id h = simp length-append (omega arith)
@@ -97,18 +98,18 @@ number_printed false v = refl
 
 -- ---- the element
 
-module _ (c : Counter) (site : Site) (n : Text) (list : Listing c.attributes) (tagged : IsTag c.tag) where
+module _ (c : Counter) (n : Text) (list : Listing c.attributes) (tagged : IsTag c.tag) where
   abbrev pub nodes_of : ℤ → Nodes
-  nodes_of v = node (Inside [] (node (Tagged c.tag (attribute_fields site n c.attributes) (child_nodes c.shows v)) no_nodes)) no_nodes
+  nodes_of v = node (Inside [] (node (Tagged c.tag (attribute_fields n c.attributes) (child_nodes c.shows v)) no_nodes)) no_nodes
 
   abbrev behind : ℤ → Text
   behind v = shown_number c v ++ (codes "</" ++ (c.tag ++ codes ">"))
 
   html_is : (v : ℤ) → html (nodes_of v) ≡ first_html c v
   html_is v =
-      append-nil (html (node (Tagged c.tag (attribute_fields site n c.attributes) (child_nodes c.shows v)) no_nodes))
-      ∙ append-nil (Html.node_html (Tagged c.tag (attribute_fields site n c.attributes) (child_nodes c.shows v)))
-      ∙ ap (λ (t : Text). codes "<" ++ (c.tag ++ (t ++ (codes ">" ++ closed c.tag (html (child_nodes c.shows v)))))) (fields_html site n list)
+      append-nil (html (node (Tagged c.tag (attribute_fields n c.attributes) (child_nodes c.shows v)) no_nodes))
+      ∙ append-nil (Html.node_html (Tagged c.tag (attribute_fields n c.attributes) (child_nodes c.shows v)))
+      ∙ ap (λ (t : Text). codes "<" ++ (c.tag ++ (t ++ (codes ">" ++ closed c.tag (html (child_nodes c.shows v)))))) (fields_html n list)
       ∙ ap (λ (t : Text). codes "<" ++ (c.tag ++ (attributes_html c.attributes ++ (codes ">" ++ closed c.tag t)))) (child_html c.shows v)
       ∙ ap (λ (b : Bool). codes "<" ++ (c.tag ++ (attributes_html c.attributes ++ (codes ">" ++ elim b [ true ↦ [] | false ↦ behind v ])))) tagged.closes
 
@@ -133,8 +134,8 @@ module _ (c : Counter) (site : Site) (n : Text) (list : Listing c.attributes) (t
 
 -- ---- who hears a click
 
-abbrev pub own_listener : Site → Text → Value
-own_listener site n = Closure site (field n (Ref 1) end) false
+abbrev pub own_listener : Text → Value
+own_listener n = Closure listener_site (field n (Ref 1) end) false
 
 -- the listener where the id is the element's and it has one
 abbrev pub if_both : Bool → Bool → Value → Option Value
@@ -150,27 +151,27 @@ child_unfound : (id : Text) (shows : Bool) (v : ℤ) → first_with id (child_no
 child_unfound id true v = text_unfound id (integer_text v)
 child_unfound id false v = refl
 
-id_shown : (site : Site) (n id : Text) {attributes : List First_attribute} → Listing attributes → shows_id id (attribute_fields site n attributes) ≡ has_id id attributes
-id_shown site n id nothing = refl
-id_shown site n id (id_only w) = refl
-id_shown site n id click_only = refl
-id_shown site n id (id_click w) = refl
-id_shown site n id (click_id w) = refl
+id_shown : (n id : Text) {attributes : List First_attribute} → Listing attributes → shows_id id (attribute_fields n attributes) ≡ has_id id attributes
+id_shown n id nothing = refl
+id_shown n id (id_only w) = refl
+id_shown n id click_only = refl
+id_shown n id (id_click w) = refl
+id_shown n id (click_id w) = refl
 
-listener_found : (site : Site) (n : Text) {attributes : List First_attribute} → Listing attributes → Found.listener (codes "click") (attribute_fields site n attributes) ≡ if_both true (has_listener attributes) (own_listener site n)
-listener_found site n nothing = refl
-listener_found site n (id_only w) = refl
-listener_found site n click_only = refl
-listener_found site n (id_click w) = refl
-listener_found site n (click_id w) = refl
+listener_found : (n : Text) {attributes : List First_attribute} → Listing attributes → Found.listener (codes "click") (attribute_fields n attributes) ≡ if_both true (has_listener attributes) (own_listener n)
+listener_found n nothing = refl
+listener_found n (id_only w) = refl
+listener_found n click_only = refl
+listener_found n (id_click w) = refl
+listener_found n (click_id w) = refl
 
-pub heard_is : (c : Counter) (site : Site) (n id : Text) → Listing c.attributes → (v : ℤ)
-    → heard_by (codes "click") id (node (Inside [] (node (Tagged c.tag (attribute_fields site n c.attributes) (child_nodes c.shows v)) no_nodes)) no_nodes)
-    ≡ if_both (has_id id c.attributes) (has_listener c.attributes) (own_listener site n)
-heard_is c site n id list v =
-    ap (λ (b : Bool). listener_among (codes "click") (or_else (or_else (elim b [ true ↦ Some (attribute_fields site n c.attributes) | false ↦ first_with id (child_nodes c.shows v) ]) None) None)) (id_shown site n id list)
+pub heard_is : (c : Counter) (n id : Text) → Listing c.attributes → (v : ℤ)
+    → heard_by (codes "click") id (node (Inside [] (node (Tagged c.tag (attribute_fields n c.attributes) (child_nodes c.shows v)) no_nodes)) no_nodes)
+    ≡ if_both (has_id id c.attributes) (has_listener c.attributes) (own_listener n)
+heard_is c n id list v =
+    ap (λ (b : Bool). listener_among (codes "click") (or_else (or_else (elim b [ true ↦ Some (attribute_fields n c.attributes) | false ↦ first_with id (child_nodes c.shows v) ]) None) None)) (id_shown n id list)
     ∙ go (has_id id c.attributes)
   where
-    go : (b : Bool) → listener_among (codes "click") (or_else (or_else (elim b [ true ↦ Some (attribute_fields site n c.attributes) | false ↦ first_with id (child_nodes c.shows v) ]) None) None) ≡ if_both b (has_listener c.attributes) (own_listener site n)
-    go true = listener_found site n list
+    go : (b : Bool) → listener_among (codes "click") (or_else (or_else (elim b [ true ↦ Some (attribute_fields n c.attributes) | false ↦ first_with id (child_nodes c.shows v) ]) None) None) ≡ if_both b (has_listener c.attributes) (own_listener n)
+    go true = listener_found n list
     go false = ap (λ (o : Option Fields). listener_among (codes "click") (or_else (or_else o None) None)) (child_unfound id c.shows v)

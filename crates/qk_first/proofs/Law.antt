@@ -14,16 +14,14 @@ use Rattle.qk_meaning.specs.World.{Object, Props, Signal, Loc, Hook, Kept}
 use Rattle.qk_meaning.specs.Names.{is_listed}
 use Rattle.qk_meaning.specs.Program.{Program, Code, captures_in}
 use Rattle.qk_meaning.specs.Doing.{Gives}
-use Rattle.qk_meaning.specs.Running.{Running, Mode, Pure, Effect, At_site, Entered, Did_read, Did_act, Happening, Hooking, Mounting, Again}
+use Rattle.qk_meaning.specs.Running.{Running, Mode, Pure, Effect, At_site, Entered, Happening, Hooking, Mounting, Again}
 use Rattle.qk_meaning.specs.Setting.{setting_of}
 use Rattle.qk_meaning.specs.Evaluation.{entered, entering, field_values}
 use Rattle.qk_meaning.specs.Readings.{program_of}
-use Rattle.qk_meaning.specs.Run.{Entry, Run}
-use Rattle.qk_meaning.specs.Output.{output}
-use Rattle.qk_first.specs.Counter.{Counter, counter_of, initial_of, is_shown, first_output}
-use Rattle.qk_first.specs.Laws.{click, FirstRun}
-use Rattle.qk_first.proofs.Words.{attribute_pairs, field_row, element, first_module}
-use Rattle.qk_first.proofs.Texts.{left, right, IsWord, word, text_own}
+use Rattle.qk_first.specs.Counter.{Counter, counter_of, initial_of, is_shown}
+use Rattle.qk_first.specs.Laws.{RunsAsCounter, FirstRun}
+use Rattle.qk_first.proofs.Words.{component_site, listener_site, attribute_pairs, field_row, element, first_module}
+use Rattle.qk_first.proofs.Texts.{left, right, IsWord, word}
 use Rattle.qk_first.proofs.Imports.{no_app, not_hook, hook_listed}
 use Rattle.qk_first.proofs.Listings.{Listing, nothing, id_only, click_only, id_click, click_id, listing, has_listener}
 use Rattle.qk_first.proofs.Listings as listings
@@ -32,7 +30,7 @@ use Rattle.qk_first.proofs.Listener.{value_in, listener_code}
 use Rattle.qk_first.proofs.Component as component
 use Rattle.qk_first.proofs.Component.{Makes, attribute_fields, reads_told, component_code, bare_code}
 use Rattle.qk_first.proofs.Integers.{differs}
-use Rattle.qk_first.proofs.Roots.{component_site, listener_site, up_of, modules, app_is, hook_root, component_coded, listener_sited, listener_coded}
+use Rattle.qk_first.proofs.Roots.{up_of, modules, app_is, hook_root, component_coded, listener_sited, listener_coded}
 use Rattle.qk_first.proofs.Elements.{IsTag, tag_holds}
 use Rattle.qk_first.proofs.Runs as runs
 use Rattle.qk_first.proofs.Trees.{module_is, signal_of}
@@ -44,7 +42,7 @@ enters p l mode site scope arguments s code e = ap (λ (k : Code). entered (At_s
 
 -- attributes without a listener are what they are written as
 bare_fields : (p : Program) (l : ℕ) (n : Text) {attributes : List First_attribute} → Listing attributes → has_listener attributes ≡ false → (s : Running)
-    → field_values (field_row (attribute_pairs n attributes)) (component.here p (entering p l) (codes "root") n listener_site (text_own n)) s ≡ Gives (attribute_fields listener_site n attributes) s
+    → field_values (field_row (attribute_pairs n attributes)) (component.here p (entering p l) n) s ≡ Gives (attribute_fields n attributes) s
 bare_fields p l n nothing h s = refl
 bare_fields p l n (id_only w) h s = refl
 bare_fields p l n click_only h s = absurd (false≢true (sym h))
@@ -52,13 +50,13 @@ bare_fields p l n (id_click w) h s = absurd (false≢true (sym h))
 bare_fields p l n (click_id w) h s = absurd (false≢true (sym h))
 
 -- the element is made within the limits, where its listener is light and flat
-makes : (p : Program) (l : ℕ) (n tag : Text) (shows : Bool) {attributes : List First_attribute} → Listing attributes → listings.Light (captures_in p) listener_site n tag attributes
-    → Makes p (entering p l) (codes "root") n listener_site (text_own n) tag shows (attribute_fields listener_site n attributes)
+makes : (p : Program) (l : ℕ) (n tag : Text) (shows : Bool) {attributes : List First_attribute} → Listing attributes → listings.Light (captures_in p) n tag attributes
+    → Makes p (entering p l) n tag shows (attribute_fields n attributes)
 makes p l n tag shows list light = record {
-  no_fault = listings.no_fault (captures_in p) listener_site n tag list shows;
-  makes_view = listings.makes_view (captures_in p) listener_site n tag list shows;
-  light = listings.light (captures_in p) listener_site n tag list light shows;
-  flat = listings.flat (captures_in p) listener_site n tag list light shows;
+  no_fault = listings.no_fault (captures_in p) n tag list shows;
+  makes_view = listings.makes_view (captures_in p) n tag list shows;
+  light = listings.light (captures_in p) n tag list light shows;
+  flat = listings.flat (captures_in p) n tag list light shows;
 }
 
 -- ---- with a signal
@@ -72,20 +70,20 @@ module _ (names : List Text) (n tag : Text) (k : ℕ) (shows : Bool) {attributes
   counter = record { tag = tag; attributes = attributes; initial = pos k; shows = shows }
 
   signal_fields : (v : ℤ) (log : List Loc) (lines : List Text) (turns : ℕ) (trace : List Happening) (hooking : Hooking)
-      → field_values (field_row (attribute_pairs n attributes)) (component.here p (entering p l) (codes "root") n listener_site (text_own n)) (component.counting p (entering p l) (codes "root") n listener_site (text_own n) v log lines turns trace hooking)
-      ≡ Gives (attribute_fields listener_site n attributes) (component.counting p (entering p l) (codes "root") n listener_site (text_own n) v log lines turns trace hooking)
+      → field_values (field_row (attribute_pairs n attributes)) (component.here p (entering p l) n) (component.counting p (entering p l) n v log lines turns trace hooking)
+      ≡ Gives (attribute_fields n attributes) (component.counting p (entering p l) n v log lines turns trace hooking)
   signal_fields v log lines turns trace hooking = go (has_listener attributes) refl
     where
       go : (b : Bool) → has_listener attributes ≡ b
-          → field_values (field_row (attribute_pairs n attributes)) (component.here p (entering p l) (codes "root") n listener_site (text_own n)) (component.counting p (entering p l) (codes "root") n listener_site (text_own n) v log lines turns trace hooking)
-          ≡ Gives (attribute_fields listener_site n attributes) (component.counting p (entering p l) (codes "root") n listener_site (text_own n) v log lines turns trace hooking)
-      go true e = component.gives_fields p (entering p l) (codes "root") n listener_site (text_own n) (λ s scope. refl) (listener_sited names n tag (pos k) shows list e) (up_of attributes) (listener_coded names n tag (pos k) shows list e) attributes v log lines turns trace hooking
-      go false e = bare_fields p l n list e (component.counting p (entering p l) (codes "root") n listener_site (text_own n) v log lines turns trace hooking)
+          → field_values (field_row (attribute_pairs n attributes)) (component.here p (entering p l) n) (component.counting p (entering p l) n v log lines turns trace hooking)
+          ≡ Gives (attribute_fields n attributes) (component.counting p (entering p l) n v log lines turns trace hooking)
+      go true e = component.gives_fields p (entering p l) n (λ s scope. refl) (listener_sited names n tag (pos k) shows list e) (up_of attributes) (listener_coded names n tag (pos k) shows list e) attributes v log lines turns trace hooking
+      go false e = bare_fields p l n list e (component.counting p (entering p l) n v log lines turns trace hooking)
 
-  signal_light : listings.Light (captures_in p) listener_site n tag attributes
+  signal_light : listings.Light (captures_in p) n tag attributes
   signal_light = record {
-    weighs = λ e. component.listener_weight p (entering p l) (codes "root") n listener_site (text_own n) (λ s scope. refl) (listener_sited names n tag (pos k) shows list e) (up_of attributes) (listener_coded names n tag (pos k) shows list e);
-    deep = λ e. component.listener_depth p (entering p l) (codes "root") n listener_site (text_own n) (λ s scope. refl) (listener_sited names n tag (pos k) shows list e) (up_of attributes) (listener_coded names n tag (pos k) shows list e);
+    weighs = λ e. component.listener_weight p (entering p l) n (λ s scope. refl) (listener_sited names n tag (pos k) shows list e) (up_of attributes) (listener_coded names n tag (pos k) shows list e);
+    deep = λ e. component.listener_depth p (entering p l) n (λ s scope. refl) (listener_sited names n tag (pos k) shows list e) (up_of attributes) (listener_coded names n tag (pos k) shows list e);
   }
 
   abbrev rest : ℤ → List Object
@@ -94,28 +92,25 @@ module _ (names : List Text) (n tag : Text) (k : ℕ) (shows : Bool) {attributes
   abbrev hooks : List Hook
   hooks = Kept (Ref 1) ∷ []
 
-  abbrev trace : List Loc → List Happening
-  trace log = Entered (At_site listener_site) ∷ Did_read (record { loc = value_in 1; at = length log }) ∷ Did_act 1 ∷ []
-
-  signal_does : runs.Does p (suc l) counter component_site listener_site n list tagged (app_is names n tag (Some (pos k)) shows attributes other) rest hooks (λ log. refl) (reads_told shows) (value_in 1 ∷ []) trace
+  signal_does : runs.Does p (suc l) counter n list tagged (app_is names n tag (Some (pos k)) shows attributes other) rest hooks (λ log. refl) (reads_told shows)
   signal_does = record {
     again = λ v log lines turns before.
-        enters p l Pure component_site end (Ref 0 ∷ []) (record { heap = Props end ∷ rest v; log = log; lines = lines; turns = suc turns; trace = before; locals = end; hooking = Again hooks }) (component_code (codes "root") n (pos k) (element shows n tag attributes)) (component_coded names n tag (Some (pos k)) shows attributes)
-        ∙ component.again p (entering p l) (codes "root") n listener_site (text_own n) tag shows attributes (makes p l n tag shows list signal_light) signal_fields (pos k) (hook_root names n tag (Some (pos k)) shows attributes hooked) (not_hook n w) component_site (Ref 0 ∷ []) v log lines turns before
-        ∙ ap (λ (t : List Happening). Gives (component.view p (entering p l) (codes "root") n listener_site (text_own n) tag shows (attribute_fields listener_site n attributes) v) (record { heap = Props end ∷ rest v; log = log; lines = lines; turns = turns; trace = t; locals = end; hooking = Again [] }))
+        enters p l Pure component_site end (Ref 0 ∷ []) (record { heap = Props end ∷ rest v; log = log; lines = lines; turns = suc turns; trace = before; locals = end; hooking = Again hooks }) (component_code n (pos k) (element shows n tag attributes)) (component_coded names n tag (Some (pos k)) shows attributes)
+        ∙ component.again p (entering p l) n tag shows attributes (makes p l n tag shows list signal_light) signal_fields (pos k) (hook_root names n tag (Some (pos k)) shows attributes hooked) (not_hook n w) component_site (Ref 0 ∷ []) v log lines turns before
+        ∙ ap (λ (t : List Happening). Gives (component.view p (entering p l) n tag shows (attribute_fields n attributes) v) (record { heap = Props end ∷ rest v; log = log; lines = lines; turns = turns; trace = t; locals = end; hooking = Again [] }))
         (append_assoc before (Entered (At_site component_site) ∷ []) (reads_told shows (length log)));
     counts = λ e v arguments log turns stays.
-        enters p l Effect listener_site (field n (Ref 1) end) arguments (listener.counting p (entering p l) (codes "root") n (text_own n) v log [] (suc turns) []) (listener_code (codes "root") n (up_of attributes)) (listener_coded names n tag (pos k) shows list e)
-        ∙ listener.counts p (entering p l) (codes "root") n (text_own n) (up_of attributes) listener_site arguments v log [] turns stays (differs (up_of attributes) v);
+        enters p l Effect listener_site (field n (Ref 1) end) arguments (listener.counting p (entering p l) n v log [] (suc turns) []) (listener_code n (up_of attributes)) (listener_coded names n tag (pos k) shows list e)
+        ∙ listener.counts p (entering p l) n (up_of attributes) listener_site arguments v log [] turns stays (differs (up_of attributes) v);
   }
 
   with_signal : (ids : List Text) → k + length ids ≤ 2000000
-      → runs.RunsWhole p (suc l) counter component_site listener_site n list tagged (app_is names n tag (Some (pos k)) shows attributes other) rest hooks (λ log. refl) (reads_told shows) (value_in 1 ∷ []) trace signal_does ids
+      → runs.RunsWhole p (suc l) counter n list tagged (app_is names n tag (Some (pos k)) shows attributes other) rest hooks (λ log. refl) (reads_told shows) signal_does ids
   with_signal ids room =
-      runs.runs_whole p (suc l) counter component_site listener_site n list tagged (app_is names n tag (Some (pos k)) shows attributes other) rest hooks (λ log. refl) (reads_told shows) (value_in 1 ∷ []) trace signal_does
+      runs.runs_whole p (suc l) counter n list tagged (app_is names n tag (Some (pos k)) shows attributes other) rest hooks (λ log. refl) (reads_told shows) signal_does
       (λ turns.
-      enters p l Pure component_site end (Ref 0 ∷ []) (record { heap = Props end ∷ []; log = []; lines = []; turns = suc turns; trace = []; locals = end; hooking = Mounting [] [] [] }) (component_code (codes "root") n (pos k) (element shows n tag attributes)) (component_coded names n tag (Some (pos k)) shows attributes)
-      ∙ component.mounts p (entering p l) (codes "root") n listener_site (text_own n) tag shows attributes (makes p l n tag shows list signal_light) signal_fields (pos k) (hook_root names n tag (Some (pos k)) shows attributes hooked) (not_hook n w) component_site (Ref 0 ∷ []) turns [] [] [])
+      enters p l Pure component_site end (Ref 0 ∷ []) (record { heap = Props end ∷ []; log = []; lines = []; turns = suc turns; trace = []; locals = end; hooking = Mounting [] [] [] }) (component_code n (pos k) (element shows n tag attributes)) (component_coded names n tag (Some (pos k)) shows attributes)
+      ∙ component.mounts p (entering p l) n tag shows attributes (makes p l n tag shows list signal_light) signal_fields (pos k) (hook_root names n tag (Some (pos k)) shows attributes hooked) (not_hook n w) component_site (Ref 0 ∷ []) turns [] [] [])
       ids room
 
 -- ---- without one
@@ -128,26 +123,26 @@ module _ (names : List Text) (n tag : Text) {attributes : List First_attribute} 
   abbrev bare_counter : Counter
   bare_counter = record { tag = tag; attributes = attributes; initial = pos 0; shows = false }
 
-  bare_light : listings.Light (captures_in bare_p) listener_site n tag attributes
+  bare_light : listings.Light (captures_in bare_p) n tag attributes
   bare_light = record { weighs = λ e. absurd (false≢true (sym silent ∙ e)); deep = λ e. absurd (false≢true (sym silent ∙ e)) }
 
   enters_bare : (heap : List Object) (log : List Loc) (lines : List Text) (turns : ℕ) (before : List Happening) (hooking : Hooking)
       → entering bare_p (suc l) Pure [] (Closure component_site end false) (Ref 0 ∷ []) (record { heap = heap; log = log; lines = lines; turns = suc turns; trace = before; locals = end; hooking = hooking })
-      ≡ Gives (component.view bare_p (entering bare_p l) (codes "root") n listener_site (text_own n) tag false (attribute_fields listener_site n attributes) (pos 0)) (record { heap = heap; log = log; lines = lines; turns = turns; trace = before ++ Entered (At_site component_site) ∷ []; locals = end; hooking = hooking })
+      ≡ Gives (component.view bare_p (entering bare_p l) n tag false (attribute_fields n attributes) (pos 0)) (record { heap = heap; log = log; lines = lines; turns = turns; trace = before ++ Entered (At_site component_site) ∷ []; locals = end; hooking = hooking })
   enters_bare heap log lines turns before hooking =
-      enters bare_p l Pure component_site end (Ref 0 ∷ []) (record { heap = heap; log = log; lines = lines; turns = suc turns; trace = before; locals = end; hooking = hooking }) (bare_code (codes "root") (element false n tag attributes)) (component_coded names n tag None false attributes)
-      ∙ component.stays bare_p (entering bare_p l) (codes "root") n listener_site (text_own n) tag attributes (makes bare_p l n tag false list bare_light) (bare_fields bare_p l n list silent) component_site (Ref 0 ∷ []) heap log lines turns before hooking
+      enters bare_p l Pure component_site end (Ref 0 ∷ []) (record { heap = heap; log = log; lines = lines; turns = suc turns; trace = before; locals = end; hooking = hooking }) (bare_code (element false n tag attributes)) (component_coded names n tag None false attributes)
+      ∙ component.stays bare_p (entering bare_p l) n tag attributes (makes bare_p l n tag false list bare_light) (bare_fields bare_p l n list silent) component_site (Ref 0 ∷ []) heap log lines turns before hooking
 
-  bare_does : runs.Does bare_p (suc l) bare_counter component_site listener_site n list tagged (app_is names n tag None false attributes other) (λ v. []) [] (λ log. refl) (λ at. []) [] (λ log. [])
+  bare_does : runs.Does bare_p (suc l) bare_counter n list tagged (app_is names n tag None false attributes other) (λ v. []) [] (λ log. refl) (λ at. [])
   bare_does = record {
     again = λ v log lines turns before. enters_bare (Props end ∷ []) log lines turns before (Again []);
     counts = λ e v arguments log turns stays. absurd (false≢true (sym silent ∙ e));
   }
 
   without_signal : (ids : List Text) → length ids ≤ 2000000
-      → runs.RunsWhole bare_p (suc l) bare_counter component_site listener_site n list tagged (app_is names n tag None false attributes other) (λ v. []) [] (λ log. refl) (λ at. []) [] (λ log. []) bare_does ids
+      → runs.RunsWhole bare_p (suc l) bare_counter n list tagged (app_is names n tag None false attributes other) (λ v. []) [] (λ log. refl) (λ at. []) bare_does ids
   without_signal ids room =
-      runs.runs_whole bare_p (suc l) bare_counter component_site listener_site n list tagged (app_is names n tag None false attributes other) (λ v. []) [] (λ log. refl) (λ at. []) [] (λ log. []) bare_does
+      runs.runs_whole bare_p (suc l) bare_counter n list tagged (app_is names n tag None false attributes other) (λ v. []) [] (λ log. refl) (λ at. []) bare_does
       (λ turns. enters_bare (Props end ∷ []) [] [] turns [] (Mounting [] [] [])) ids (omega arith)
 
 -- ---- a text of the first form
@@ -160,16 +155,10 @@ no_listener click_only h = absurd (false≢true h)
 no_listener (id_click w) h = absurd (false≢true h)
 no_listener (click_id w) h = absurd (false≢true h)
 
--- the run where the one module is this one
-record RunsIn (m : Module) (c : Counter) (ids : List Text) : Type 0 where
-  entries : List Entry
-  run : Run (program_of ((codes "root", m) ∷ [])) (λ w. w) (map click ids) entries
-  prints : output (program_of ((codes "root", m) ∷ [])) entries ≡ first_output c ids
-
 runs_in : (names : List Text) (n tag : Text) (initial : Option Characters) {attributes : List First_attribute} (shape : Shape) (list : Listing attributes) (tagged : IsTag tag) (w : IsWord n)
     → is_listed (codes "App") names ≡ false → (qwik : List Characters) → IsTrue (state_fits initial qwik attributes shape) → (IsTrue (is_one_of (codes "useSignal") qwik) → is_listed (codes "useSignal") names ≡ true)
     → (ids : List Text) → length ids ≤ 65536
-    → RunsIn (first_module names n (signal_of initial) (element (is_shown shape) n tag attributes)) (record { tag = tag; attributes = attributes; initial = initial_of initial; shows = is_shown shape }) ids
+    → RunsAsCounter (first_module names n (signal_of initial) (element (is_shown shape) n tag attributes)) (record { tag = tag; attributes = attributes; initial = initial_of initial; shows = is_shown shape }) ids
 runs_in names n tag (Some digits) shape list tagged w other qwik fits hooked ids room =
     let small = leb-true (number_after 10 0 digits) 1000000 (left _ _ fits) in
     let r = with_signal names n tag (number_after 10 0 digits) (is_shown shape) list tagged w 47 other (hooked (right _ _ fits)) ids (omega arith) in
@@ -185,11 +174,6 @@ runs_in names n tag None Shown list tagged w other qwik fits hooked ids room = a
 pub first_runs : FirstRun
 first_runs f fits ids room =
     let qwik = left (are_qwik_names (names_of f.imported)) (is_distinct (names_of f.imported)) (left _ _ fits.qwik) in
-    let r = runs_in (names_tree f.imported) f.name f.tag f.initial f.shape (listing f.attributes fits.attributed) (tag_holds f.tag fits.tagged) (word f.name (left _ _ (left _ _ fits.named)))
-    (no_app f.imported qwik) (names_of f.imported) fits.state (hook_listed f.imported) ids room in
-    let e = sym (module_is f fits) in
-    record {
-      entries = r.entries;
-      run = subst (λ (m : Module). Run (program_of ((codes "root", m) ∷ [])) (λ w. w) (map click ids) r.entries) e r.run;
-      prints = subst (λ (m : Module). output (program_of ((codes "root", m) ∷ [])) r.entries ≡ first_output (counter_of f) ids) e r.prints;
-    }
+    subst (λ (m : Module). RunsAsCounter m (counter_of f) ids) (sym (module_is f fits))
+    (runs_in (names_tree f.imported) f.name f.tag f.initial f.shape (listing f.attributes fits.attributed) (tag_holds f.tag fits.tagged) (word f.name (left _ _ (left _ _ fits.named)))
+    (no_app f.imported qwik) (names_of f.imported) fits.state (hook_listed f.imported) ids room)

@@ -8,6 +8,7 @@ use Rattle.qk_meaning.specs.Value.{Text, Site, Element, Value, Ref, Elem, Closur
 use Rattle.qk_meaning.specs.Parts.{packed}
 use Rattle.qk_meaning.specs.Same.{weight, depth}
 use Rattle.qk_meaning.specs.Markup.{markup_fault, element}
+use Rattle.qk_first.proofs.Words.{listener_site}
 use Rattle.qk_first.proofs.Texts.{left, right, IsWord, word}
 use Rattle.qk_first.proofs.Component.{attribute_fields, child_values}
 
@@ -41,11 +42,11 @@ has_listener (On_click up ∷ more) = true
 
 -- ---- the element is made within the limits
 
-module _ (captures : Site → List Text) (site : Site) (n tag : Text) where
+module _ (captures : Site → List Text) (n tag : Text) where
   abbrev view : Bool → List First_attribute → ℤ → Value
-  view shows attributes v = Elem (Element tag) None [] (attribute_fields site n attributes) (packed (child_values shows v))
+  view shows attributes v = Elem (Element tag) None [] (attribute_fields n attributes) (packed (child_values shows v))
 
-  pub no_fault : {attributes : List First_attribute} → Listing attributes → (shows : Bool) (v : ℤ) → markup_fault (Element tag) (attribute_fields site n attributes) (packed (child_values shows v)) ≡ None
+  pub no_fault : {attributes : List First_attribute} → Listing attributes → (shows : Bool) (v : ℤ) → markup_fault (Element tag) (attribute_fields n attributes) (packed (child_values shows v)) ≡ None
   no_fault nothing true v = refl
   no_fault nothing false v = refl
   no_fault (id_only w) true v = refl
@@ -57,7 +58,7 @@ module _ (captures : Site → List Text) (site : Site) (n tag : Text) where
   no_fault (click_id w) true v = refl
   no_fault (click_id w) false v = refl
 
-  pub makes_view : {attributes : List First_attribute} → Listing attributes → (shows : Bool) (v : ℤ) → element (Element tag) (attribute_fields site n attributes) (packed (child_values shows v)) ≡ view shows attributes v
+  pub makes_view : {attributes : List First_attribute} → Listing attributes → (shows : Bool) (v : ℤ) → element (Element tag) (attribute_fields n attributes) (packed (child_values shows v)) ≡ view shows attributes v
   makes_view nothing shows v = refl
   makes_view (id_only w) shows v = refl
   makes_view click_only shows v = refl
@@ -65,7 +66,7 @@ module _ (captures : Site → List Text) (site : Site) (n tag : Text) where
   makes_view (click_id w) shows v = refl
 
   abbrev own_listener : Value
-  own_listener = Closure site (field n (Ref 1) end) false
+  own_listener = Closure listener_site (field n (Ref 1) end) false
 
   -- the listener is light and flat, where there is one
   pub record Light (attributes : List First_attribute) : Type 0 where

@@ -32,9 +32,22 @@ expands_view : {S : Type 0} (visit : Visit S) (lines : S → List Text) (n : ℕ
 expands_view visit lines n true tag attributes v s = refl
 expands_view visit lines n false tag attributes v s = refl
 
-module _ (p : Program) (levels : ℕ) (component : Site) (app : app_of p ≡ Component component)
-    (tag : Text) (attributes : Fields) (shows : Bool)
-    (rest : ℤ → List Object) (hooks : List Hook) (idle : (log : List Loc) → due_hook log 0 0 hooks ≡ None) (told : ℕ → List Happening) where
+-- the page of one component: the element that it shows, the objects and the hooks that it has, and what happens in it besides its entering
+pub record Page : Type 0 where
+  pub component : Site
+  pub tag : Text
+  pub attributes : Fields
+  -- whether the number is shown
+  pub shows : Bool
+  -- the objects behind its props, at a number
+  pub rest : ℤ → List Object
+  pub hooks : List Hook
+  -- what happens where the log has this length
+  pub told : ℕ → List Happening
+
+module _ (p : Program) (levels : ℕ) (page : Page) (app : app_of p ≡ Component page.component) (idle : (log : List Loc) → due_hook log 0 0 page.hooks ≡ None) where
+  open page use {component, tag, attributes, shows, rest, hooks, told}
+
   abbrev pub view : ℤ → Value
   view v = Elem (Element tag) None [] attributes (packed (child_values shows v))
 

@@ -10,7 +10,17 @@ use Rattle.qk_ast.specs.declared.Jsx.{Jsx, Jsx'}
 use Rattle.qk_ast.specs.declared.Body.{Body, Block' as Body_block'}
 use mathlib.Core.Former.{arity, this, list}
 use Rattle.qk_ast.specs.First.{First_attribute, Id, On_click}
-use Rattle.qk_meaning.specs.Value.{Text}
+use Rattle.qk_meaning.specs.Value.{Text, Site}
+
+-- the module's name, and the sites of its two arrows
+abbrev pub root : Text
+root = codes "root"
+
+abbrev pub component_site : Site
+component_site = record { file = root; number = 1; dollar = true }
+
+abbrev pub listener_site : Site
+listener_site = record { file = root; number = 2; dollar = true }
 
 -- NAME.value
 abbrev pub value_of : Text → Expr
