@@ -95,7 +95,7 @@ pub played_all : (c : Counter) (ids : List Text) (index : ℕ) (n : ℤ) (before
 played_all c ids index n before now played past =
     let over : drop index ids ≡ [] = drop_all index ids past in
     played.put ∙ ap (λ t. option_map (with_piece t) before)
-        (sym (played.left ∙ ap (λ i. played.done ++ clicks_texts c (suc index) n i) over ∙ ap (λ t. played.done ++ t) (clicks_nothing c (suc index) n) ∙ append-nil played.done))
+    (sym (played.left ∙ ap (λ i. played.done ++ clicks_texts c (suc index) n i) over ∙ ap (λ t. played.done ++ t) (clicks_nothing c (suc index) n) ∙ append-nil played.done))
 
 pub played_front : (c : Counter) (ids : List Text) (index : ℕ) (n : ℤ) (id : Text) (before between now : Option (List ℕ)) → IsPlayed c ids index n before between → index < length ids → id ≡ get_or ids index id
     → AppendsFront (click_text c (index + 1) n id) between now → AppendsFront (played_text c ids) before now
@@ -104,8 +104,8 @@ played_front c ids index n id before between now played below e front =
     let further = clicks_texts c (suc (suc index)) (clicked c n id) (drop (suc index) ids) in
     let here : AppendsFront (click_text c (suc index) n id) between now = rw (← add-one) front in
     front_behind played.done (click_text c (suc index) n id ++ further) (played_text c ids) before between now played.put
-        (front_of (click_text c (suc index) n id) further (click_text c (suc index) n id ++ further) between now here refl)
-        (played.left ∙ ap (λ t. played.done ++ t) goes_on)
+    (front_of (click_text c (suc index) n id) further (click_text c (suc index) n id ++ further) between now here refl)
+    (played.left ∙ ap (λ t. played.done ++ t) goes_on)
 
 -- the first block is a front of all
 pub first_front : (c : Counter) (ids : List Text) (before now : Option (List ℕ)) → AppendsFront (first_text c) before now → AppendsFront (played_text c ids) before now

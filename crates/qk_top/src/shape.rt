@@ -6,7 +6,10 @@ ghost use Rattle.qk_ast.specs.declared.Body.TheVariants as b;
 ghost use Rattle.qk_ast.specs.declared.Stmt.TheVariants as s;
 ghost use Rattle.qk_ast.specs.declared.Tag.TheVariants as t;
 ghost use Rattle.qk_ast.specs.declared.Jsx.{out-Jsx, roll-Jsx};
-ghost use Rattle.qk_top.specs.Standing.{KeepsElement};
+ghost use Rattle.qk_ast.specs.Tree.{module_tree};
+ghost use Rattle.qk_ast.specs.First.{Fits, module_of};
+ghost use Rattle.qk_first.specs.Counter.{counter_of};
+ghost use Rattle.qk_top.specs.Standing.{KeepsElement, PlaysAs};
 ghost use Rattle.qk_top.specs.Shape.{attribute_named};
 
 use qk_ast::{Body, Expr, Field, Jsx, Link, Module, Stmt, Tag};
@@ -25,11 +28,19 @@ pub(crate) struct Counter<'m> {
     pub(crate) shows: bool,
 }
 
-/// The statements of the arrow that makes the module's only item.
-fn statements(module: &Module) -> Option<&[Stmt]>
-    ensures { (x : _) (name : _) (f : _) (n : _) (ps : _) (ss : _) → module.now.items ≡ record { exported = x; name = name; init = e.Post (e.Name f) (l.Call (e.Arrow (record { place = n; params = ps; body = b.Block ss }) ∷ []) ∷ []) } ∷ [] → IsSomeAnd result (λ it. it.now ≡ ss) }
+/// The counter of a module of the first form.
+pub(crate) fn read_counter(tree: &Module) -> Option<Counter<'_>>
+    ensures { (f : _) → Fits f → module_tree (module_of f) ≡ tree.now → IsSomeAnd result (λ kept. PlaysAs kept (counter_of f)) }
 {
-    let [item] = module.items.as_slice() else {
+    let (initial, jsx) = parts(statements(tree)?)?;
+    element(initial, jsx)
+}
+
+/// The statements of the arrow that makes the module's only item.
+fn statements(tree: &Module) -> Option<&[Stmt]>
+    ensures { (x : _) (name : _) (f : _) (n : _) (ps : _) (ss : _) → tree.now.items ≡ record { exported = x; name = name; init = e.Post (e.Name f) (l.Call (e.Arrow (record { place = n; params = ps; body = b.Block ss }) ∷ []) ∷ []) } ∷ [] → IsSomeAnd result (λ it. it.now ≡ ss) }
+{
+    let [item] = tree.items.as_slice() else {
         return None;
     };
     block(argument(&item.init)?)
@@ -48,7 +59,9 @@ fn parts(statements: &[Stmt]) -> Option<(i64, &Jsx)>
 }
 
 /// The counter of this element.
-fn element(initial: i64, jsx: &Jsx) -> Option<Counter<'_>> {
+fn element(initial: i64, jsx: &Jsx) -> Option<Counter<'_>>
+    ensures { (tag : _) (attributes : _) (children : _) → jsx.now ≡ roll-Jsx (record { tag = t.Element tag; attrs = attributes; children = children }) → IsSomeAnd result (λ kept. KeepsElement kept initial tag attributes children) }
+{
     let Tag::Element(tag) = &jsx.tag else {
         return None;
     };
