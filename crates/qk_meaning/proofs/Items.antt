@@ -1,6 +1,7 @@
 -- An item at two limits, and a script with two runs.
-use Rattle.std.specs.Prelude.{◌≡◌, refl, max, ⊤, List, [], ◌∷◌}
+use Rattle.std.specs.Prelude.{◌≡◌, refl, false, max, ⊤, List, [], ◌∷◌}
 use Rattle.std.proofs.Common.{sym, ap, subst, ◌∙◌}
+use Rattle.std.proofs.lemmas.Bool.{false≢true}
 use Rattle.std.proofs.Math.Nat.{le-max_left, le-max_right}
 use Rattle.qk_meaning.specs.Value.{Text}
 use Rattle.qk_meaning.specs.World.{World}
@@ -8,10 +9,10 @@ use Rattle.qk_meaning.specs.Fault.{Fault}
 use Rattle.qk_meaning.specs.Program.{Program}
 use Rattle.qk_meaning.specs.Doing.{Outcome, Gives, Faults, Ends}
 use Rattle.qk_meaning.specs.Session.{Session, world_of}
-use Rattle.qk_meaning.specs.Item.{Block, Limits, first_item, event_item}
-use Rattle.qk_meaning.specs.Run.{Line, Entry, Played, Paused, Faulted, Run_from, played_all, paused, played, faulted, endless, Run, rendered, render_faulted, render_endless}
+use Rattle.qk_meaning.specs.Item.{Event, Block, Limits, first_item, event_item}
+use Rattle.qk_meaning.specs.Run.{Line, Happens, Pauses, Entry, Played, Paused, Faulted, Run_from, played_all, paused, played, faulted, endless, Run, rendered, render_faulted, render_endless, plays_on, plays_from, plays}
 use Rattle.qk_meaning.specs.Laws as Laws
-use Rattle.qk_meaning.specs.Laws.{An_item, The_render, The_event, seen, seen_at}
+use Rattle.qk_meaning.specs.Laws.{An_item, The_render, The_event, seen, seen_at, has_ended}
 use Rattle.qk_meaning.proofs.Limits.{Within, Same_item, event_shows, event_faults, render_shows, render_faults}
 
 abbrev Ends_never : Outcome World Block → Type 0
@@ -132,3 +133,32 @@ module _ (program : Program) (leaves : World → World) where
 
 pub one_run : Laws.OneRun
 one_run program leaves script one other r s = one_run_from program leaves script one other r s
+
+-- ---- what is played at one budget
+
+module _ (program : Program) (leaves : World → World) (limits : Limits) where
+  -- an event that is played, where the rest of its script is
+  event_played : (script : List Line) (w : World) (e : Event) (o : Outcome Session Block) → event_item program limits w e ≡ o
+      → ((v : World) → has_ended (plays_from program leaves limits script v) ≡ false → Run_from program leaves v script (plays_from program leaves limits script v))
+      → has_ended (plays_on program leaves (plays_from program leaves limits script) o) ≡ false
+      → Run_from program leaves w (Happens e ∷ script) (plays_on program leaves (plays_from program leaves limits script) o)
+  event_played script w e (Gives block next) i further k = played limits block next i (further (world_of next) k)
+  event_played script w e (Faults f lines) i further k = faulted limits f lines i
+  event_played script w e Ends i further k = absurd (false≢true (sym k))
+
+  from_played : (script : List Line) (w : World) → has_ended (plays_from program leaves limits script w) ≡ false → Run_from program leaves w script (plays_from program leaves limits script w)
+  from_played [] w h = played_all
+  from_played (Pauses ∷ script) w h = paused (from_played script (leaves w) h)
+  from_played (Happens e ∷ script) w h = event_played script w e (event_item program limits w e) refl (λ v k. from_played script v k) h
+
+  run_played : (script : List Line) → has_ended (plays program leaves limits script) ≡ false → Run program leaves script (plays program leaves limits script)
+  run_played script h = go (first_item program limits) refl h
+    where
+      go : (o : Outcome Session Block) → first_item program limits ≡ o → has_ended (plays_on program leaves (plays_from program leaves limits script) o) ≡ false
+          → Run program leaves script (plays_on program leaves (plays_from program leaves limits script) o)
+      go (Gives block next) i k = rendered limits block next i (from_played script (world_of next) k)
+      go (Faults f lines) i k = render_faulted limits f lines i
+      go Ends i k = absurd (false≢true (sym k))
+
+pub played_is_run : Laws.PlayedIsRun
+played_is_run program leaves limits script h = run_played program leaves limits script h

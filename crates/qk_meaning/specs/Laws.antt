@@ -1,5 +1,5 @@
 -- The laws of the meaning.
-use Rattle.std.specs.Prelude.{ℕ, ◌≡◌, ◌≤◌, ◌<◌, List, None}
+use Rattle.std.specs.Prelude.{ℕ, ◌≡◌, ◌≤◌, ◌<◌, Bool, true, false, List, [], ◌∷◌, None}
 use Rattle.qk_meaning.specs.Value.{Value}
 use Rattle.qk_meaning.specs.World.{World}
 use Rattle.qk_meaning.specs.Program.{Program}
@@ -9,7 +9,7 @@ use Rattle.qk_meaning.specs.Evaluation.{entering}
 use Rattle.qk_meaning.specs.Session.{Session, world_of}
 use Rattle.qk_meaning.specs.Settling.{Spot, first_due, pass, run_task, settled_within, settled}
 use Rattle.qk_meaning.specs.Item.{Event, Block, Limits, first_item, event_item}
-use Rattle.qk_meaning.specs.Run.{Line, Entry, Run}
+use Rattle.qk_meaning.specs.Run.{Line, Entry, Ended, Run, plays}
 
 -- an item of a script: the first render, or an event with the world before it
 pub data An_item : Type 0 where
@@ -44,6 +44,18 @@ TwoLimits =
 -- a script has at most one run
 abbrev pub OneRun : Type 0
 OneRun = (program : Program) (leaves : World → World) (script : List Line) (one other : List Entry) → Run program leaves script one → Run program leaves script other → one ≡ other
+
+-- some item ended with its budget
+abbrev pub has_ended : List Entry → Bool
+has_ended [] = false
+has_ended (Ended ∷ rest) = true
+has_ended (_ ∷ rest) = has_ended rest
+
+-- what is played at one budget is the run of the script, unless an item ends with that budget
+abbrev pub PlayedIsRun : Type 0
+PlayedIsRun =
+    (program : Program) (leaves : World → World) (limits : Limits) (script : List Line) → has_ended (plays program leaves limits script) ≡ false →
+    Run program leaves script (plays program leaves limits script)
 
 -- a call that gives a value has taken a turn
 abbrev pub CallsTakeTurns : Type 0

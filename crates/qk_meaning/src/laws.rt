@@ -1,6 +1,6 @@
 //! Laws of the meaning. Each is the contract of a function that does nothing.
 
-ghost use Rattle.qk_meaning.specs.Laws.{GreaterLimits, TwoLimits, OneRun, CallsTakeTurns, PassesTakeTurns, TasksTakeTurns, RoundsAreEnough, NothingDue};
+ghost use Rattle.qk_meaning.specs.Laws.{GreaterLimits, TwoLimits, OneRun, PlayedIsRun, CallsTakeTurns, PassesTakeTurns, TasksTakeTurns, RoundsAreEnough, NothingDue};
 
 /// Where an item doesn't end at some limits of turns and depth, it gives the same at all greater ones.
 pub fn greater_limits()
@@ -15,6 +15,11 @@ pub fn two_limits()
 /// A script has at most one run.
 pub fn one_run()
     ensures { OneRun }
+{}
+
+/// What is played at one budget is the run of the script, unless an item ends with that budget.
+pub fn played_is_run()
+    ensures { PlayedIsRun }
 {}
 
 /// A call that gives a value has taken a turn of the budget.
