@@ -1,4 +1,4 @@
--- A Slot and a context across modules.
+-- A Slot with a name, and a context whose value is a signal.
 use Rattle.std.specs.Prelude.{◌≡◌, refl, true, List, [], ◌∷◌, codes}
 use Rattle.qk_ast.specs.declared.Module.{Module}
 use Rattle.qk_meaning.specs.Sites.{Named_module}
