@@ -1,11 +1,11 @@
 -- Lists and records: cut, joined, their keys listed, compared.
-use Rattle.std.specs.Prelude.{◌≡◌, refl, pos, false, [], ◌∷◌, codes}
+use Rattle.std.specs.Prelude.{◌≡◌, refl, ℕ, zero, suc, pos, false, [], ◌∷◌, codes}
 use Rattle.qk_ast.specs.declared.Expr.{Expr}
 use Rattle.qk_ast.specs.declared.Bin.{Bin}
 use Rattle.qk_ast.specs.declared.Un.{Un}
 use Rattle.qk_ast.specs.declared.Known.{Known}
-use Rattle.qk_meaning.specs.Value.{Undefined, Truth, Int, Words, Items, none, item}
-use Rattle.qk_meaning.specs.Fault.{Identity, NotText}
+use Rattle.qk_meaning.specs.Value.{Value, Undefined, Truth, Int, Words, Items, none, item}
+use Rattle.qk_meaning.specs.Fault.{Identity, TreeTooDeep, NotText}
 use Rattle.qk_meaning.specs.Doing.{Ends}
 use Rattle.qk_meaning.proofs.Rows.Trees.{int, name, text, list_of, record_of, unary, chain, post, dot, index, call, known, gives, plain, arrow, const, do_it, give_back}
 use Rattle.qk_meaning.proofs.Rows.Calls.{pure, pure_at, effect_block, is, fails}
@@ -76,3 +76,18 @@ pushed_and_popped : effect_block (
     give_back (chain (name "n") ((Bin.Add, text " ") ∷ (Bin.Add, post (name "a") (dot "pop" ∷ call [] ∷ [])) ∷ [])) ∷
     []) ≡ is (Words (codes "2 undefined"))
 pushed_and_popped = refl
+
+-- lists in one another: 32 of them are as deep as a value may be
+abbrev nested : ℕ → Expr
+nested zero = int 1
+nested (suc n) = list_of (nested n ∷ [])
+
+abbrev nested_value : ℕ → Value
+nested_value zero = Int (pos 1)
+nested_value (suc n) = Items (item (nested_value n) none)
+
+as_deep_as_may_be : pure (nested 32) ≡ is (nested_value 32)
+as_deep_as_may_be = refl
+
+one_level_deeper : pure (nested 33) ≡ fails TreeTooDeep
+one_level_deeper = refl
