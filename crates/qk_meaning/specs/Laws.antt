@@ -16,6 +16,7 @@ pub data An_item : Type 0 where
   The_render : An_item
   The_event : World → Event → An_item
 
+-- an item at some limits
 abbrev pub played : Program → Limits → An_item → Outcome Session Block
 played program limits The_render = first_item program limits
 played program limits (The_event w e) = event_item program limits w e
@@ -63,10 +64,11 @@ CallsTakeTurns =
     (program : Program) (levels : ℕ) (mode : Mode) (under_way : List ℕ) (f : Value) (arguments : List Value) (s after : Running) (v : Value) →
     entering program levels mode under_way f arguments s ≡ Gives v after → after.turns < s.turns
 
--- a pass takes a turn, and a run of a task does
+-- a pass takes a turn
 abbrev pub PassesTakeTurns : Type 0
 PassesTakeTurns = (program : Program) (levels : ℕ) (w after : Session) → pass program levels w ≡ Gives tt after → after.running.turns < w.running.turns
 
+-- a run of a task takes a turn
 abbrev pub TasksTakeTurns : Type 0
 TasksTakeTurns = (program : Program) (levels : ℕ) (spot : Spot) (w after : Session) → run_task program levels spot w ≡ Gives tt after → after.running.turns < w.running.turns
 
