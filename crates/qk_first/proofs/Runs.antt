@@ -1,0 +1,184 @@
+-- The run of a script, where it is known what the component and its listener do.
+use Rattle.std.specs.Prelude.{◌≡◌, refl, ℕ, suc, ◌+◌, ◌≤◌, ℤ, nat_abs, Bool, true, false, List, [], ◌∷◌, ◌++◌, map, length, Option, Some, None, codes}
+use Rattle.std.proofs.Common.{ap, ◌∙◌, arith}
+use mathlib.Core.Path.{sym}
+use Rattle.qk_ast.specs.First.{First_attribute, Id, On_click}
+use Rattle.qk_meaning.specs.Value.{Text, Component, Value, Int, Ref, Closure, end}
+use Rattle.qk_meaning.specs.World.{Object, Props, Loc, Read, Hook, World}
+use Rattle.qk_meaning.specs.Program.{Program}
+use Rattle.qk_meaning.specs.Operators.{safe, Is}
+use Rattle.qk_meaning.specs.Doing.{Gives}
+use Rattle.qk_meaning.specs.Running.{Running, Effect, Pure, At_site, Happening, Entered, Did_read, Did_act, Hooking, Outside, Mounting, Again}
+use Rattle.qk_meaning.specs.Evaluation.{entering}
+use Rattle.qk_meaning.specs.Trace.{own_reads}
+use Rattle.qk_meaning.specs.Readings.{app_of}
+use Rattle.qk_meaning.specs.Settling.{due_hook}
+use Rattle.qk_meaning.specs.Session.{session_in}
+use Rattle.qk_meaning.specs.Item.{Event, Limits, records_of}
+use Rattle.qk_meaning.specs.Run.{Entry, Played, Run_from, played_all, played, Run, rendered}
+use Rattle.qk_meaning.specs.Html.{written}
+use Rattle.qk_meaning.specs.Output.{printed_char, line, block_text, output_from, output}
+use Rattle.qk_first.specs.Counter.{Counter, has_id, listener, hears, moved, first_html, item_line, html_line, first_blocks, first_output}
+use Rattle.qk_first.specs.Laws.{click}
+use Rattle.qk_first.proofs.Words.{component_site, listener_site}
+use Rattle.qk_first.proofs.Listener.{value_in}
+use Rattle.qk_first.proofs.Plain.{written_printed}
+use Rattle.qk_first.proofs.Listings.{Listing, has_listener}
+use Rattle.qk_first.proofs.Roots.{up_of}
+use Rattle.qk_first.proofs.Component.{attribute_fields}
+use Rattle.qk_first.proofs.Elements.{IsTag, own_listener, if_both, heard_is, html_printed, fits}
+use Rattle.qk_first.proofs.Integers.{near, is_safe}
+use Rattle.qk_first.proofs.Passes as passes
+
+-- ---- what is printed of an item
+
+abbrev none_text : Bool → Text
+none_text true = line (codes "none")
+none_text false = []
+
+block_is : (c : Counter) (p : Program) (k : ℕ) (found_none : Bool) (v : ℤ) (w : World) → written printed_char (first_html c v) ≡ first_html c v
+    → block_text p k (Played (record { none = found_none; lines = []; html = first_html c v }) w) ≡ item_line k ++ (none_text found_none ++ html_line c v)
+block_is c p k true v w h = ap (λ (t : Text). item_line k ++ (line (codes "none") ++ line (codes "html " ++ t))) h
+block_is c p k false v w h = ap (λ (t : Text). item_line k ++ line (codes "html " ++ t)) h
+
+-- what is printed for an id and the ids behind it, by who hears it
+abbrev next_blocks : Counter → ℕ → ℤ → List Text → Option Bool → Text
+next_blocks c k v more heard =
+    elim heard [
+      | Some up ↦ (item_line k ++ html_line c (moved up v)) ++ first_blocks c (suc k) (moved up v) more
+      | None ↦ (item_line k ++ (line (codes "none") ++ html_line c v)) ++ first_blocks c (suc k) v more
+    ]
+
+listener_is : (attributes : List First_attribute) → listener attributes ≡ elim (has_listener attributes) [ true ↦ Some (up_of attributes) | false ↦ None ]
+listener_is [] = refl
+listener_is (Id w ∷ more) = listener_is more
+listener_is (On_click up ∷ more) = refl
+
+module _ (p : Program) (levels : ℕ) (c : Counter) (n : Text) (list : Listing c.attributes) (tagged : IsTag c.tag) (app : app_of p ≡ Component component_site)
+    (rest : ℤ → List Object) (hooks : List Hook) (idle : (log : List Loc) → due_hook log 0 0 hooks ≡ None) (told : ℕ → List Happening) where
+  abbrev page : passes.Page
+  page = record { component = component_site; tag = c.tag; attributes = attribute_fields n c.attributes; shows = c.shows; rest = rest; hooks = hooks; told = told }
+
+  abbrev run_in : ℤ → List Loc → ℕ → List Happening → Hooking → Running
+  run_in v log turns trace hooking = passes.run_in p levels page app idle v log [] turns trace hooking
+
+  abbrev view : ℤ → Value
+  view v = passes.view p levels page app idle v
+
+  abbrev happens : ℕ → List Happening
+  happens at = passes.happens p levels page app idle at
+
+  abbrev world : ℤ → List Loc → List Read → World
+  world v log reads = record { heap = Props end ∷ rest v; log = log; lines = []; instances = passes.stood p levels page app idle (view v) reads ∷ [] }
+
+  abbrev limits : Limits
+  limits = record { turns = 100; levels = levels }
+
+  -- what the listener logs, and what happens in it
+  abbrev more : List Loc
+  more = value_in 1 ∷ []
+
+  abbrev trace : List Loc → List Happening
+  trace log = Entered (At_site listener_site) ∷ Did_read (record { loc = value_in 1; at = length log }) ∷ Did_act 1 ∷ []
+
+  -- what the component's function does where its instance stands, and what the listener does
+  pub record Does : Type 0 where
+    pub again : (v : ℤ) (log : List Loc) (lines : List Text) (turns : ℕ) (before : List Happening)
+        → entering p levels Pure [] (Closure component_site end false) (Ref 0 ∷ []) (record { heap = Props end ∷ rest v; log = log; lines = lines; turns = suc turns; trace = before; locals = end; hooking = Again hooks })
+        ≡ Gives (view v) (record { heap = Props end ∷ rest v; log = log; lines = lines; turns = turns; trace = before ++ happens (length log); locals = end; hooking = Again [] })
+    pub counts : has_listener c.attributes ≡ true → (v : ℤ) (arguments : List Value) (log : List Loc) (turns : ℕ) → safe (moved (up_of c.attributes) v) ≡ Is (Int (moved (up_of c.attributes) v))
+        → entering p levels Effect [] (own_listener n) arguments (run_in v log (suc turns) [] Outside)
+        ≡ Gives (Int v) (run_in (moved (up_of c.attributes) v) (log ++ more) turns (trace log) Outside)
+
+  -- the run from an item on, and what is printed of it
+  record RunsFrom (k : ℕ) (v : ℤ) (log : List Loc) (reads : List Read) (ids : List Text) : Type 0 where
+    entries : List Entry
+    run : Run_from p (λ w. w) (world v log reads) (map click ids) entries
+    prints : output_from p k entries ≡ first_blocks c k v ids
+
+  module _ (does : Does) where
+    abbrev event_of : Text → Event
+    event_of id = record { kind = codes "click"; id = id; value = None }
+
+    printed_is : (v : ℤ) → written printed_char (first_html c v) ≡ first_html c v
+    printed_is v = written_printed (first_html c v) (html_printed c n list tagged v)
+
+    -- nothing hears the click
+    unheard : (id : Text) (ids : List Text) (k : ℕ) (v : ℤ) (log : List Loc) (reads : List Read) → if_both (has_id id c.attributes) (has_listener c.attributes) (own_listener n) ≡ None → hears c id ≡ None
+        → RunsFrom (suc k) v log reads ids → RunsFrom k v log reads (id ∷ ids)
+    unheard id ids k v log reads unfound silent r = record {
+      entries = Played (record { none = true; lines = []; html = first_html c v }) (world v log reads) ∷ r.entries;
+      run = played limits (record { none = true; lines = []; html = first_html c v }) (session_in (world v log reads) 100)
+          (passes.unheard p levels page app idle does.again (first_html c) (fits c n list tagged) (event_of id) v log reads 100 (heard_is c n id list v ∙ unfound))
+          r.run;
+      prints = ap (λ (t : Text). t ++ output_from p (suc k) r.entries) (block_is c p k true v (world v log reads) (printed_is v))
+          ∙ ap (λ (t : Text). (item_line k ++ (line (codes "none") ++ html_line c v)) ++ t) r.prints
+          ∙ ap (next_blocks c k v ids) (sym silent);
+    }
+
+    -- the listener hears the click, and the number moves
+    heard : (id : Text) (ids : List Text) (k : ℕ) (v : ℤ) (log : List Loc) (reads : List Read) → has_listener c.attributes ≡ true
+        → if_both (has_id id c.attributes) (has_listener c.attributes) (own_listener n) ≡ Some (own_listener n) → hears c id ≡ Some (up_of c.attributes)
+        → safe (moved (up_of c.attributes) v) ≡ Is (Int (moved (up_of c.attributes) v))
+        → RunsFrom (suc k) (moved (up_of c.attributes) v) (log ++ more) (own_reads (happens (length (log ++ more)))) ids → RunsFrom k v log reads (id ∷ ids)
+    heard id ids k v log reads listens found hearing stays r =
+        let u = moved (up_of c.attributes) v in
+        let behind = log ++ more in
+        let next = own_reads (happens (length behind)) in
+        record {
+          entries = Played (record { none = false; lines = []; html = first_html c u }) (world u behind next) ∷ r.entries;
+          run = played limits (record { none = false; lines = []; html = first_html c u })
+              (passes.session p levels page app idle u behind [] 98 (trace log ++ happens (length behind)) (passes.stood p levels page app idle (view u) next ∷ []) [] false)
+              (passes.heard_at p levels page app idle does.again (first_html c) (fits c n list tagged)
+              (event_of id) (own_listener n) (Int v) v u log behind reads 98 (trace log) (heard_is c n id list v ∙ found) (does.counts listens v (records_of (event_of id)) log 99 stays))
+              r.run;
+          prints = ap (λ (t : Text). t ++ output_from p (suc k) r.entries) (block_is c p k false u (world u behind next) (printed_is u))
+              ∙ ap (λ (t : Text). (item_line k ++ html_line c u) ++ t) r.prints
+              ∙ ap (next_blocks c k v ids) (sym hearing);
+        }
+
+    runs_from : (ids : List Text) (k : ℕ) (v : ℤ) (log : List Loc) (reads : List Read) → nat_abs v + length ids ≤ 2000000 → RunsFrom k v log reads ids
+    runs_from [] k v log reads room = record { entries = []; run = played_all; prints = refl }
+    runs_from (id ∷ ids) k v log reads room =
+        go (has_id id c.attributes) (has_listener c.attributes) refl refl
+        (runs_from ids (suc k) (moved (up_of c.attributes) v) (log ++ more) (own_reads (happens (length (log ++ more)))) (omega (arith, near (up_of c.attributes) v)))
+        (runs_from ids (suc k) v log reads (omega arith))
+      where
+        hears_if : Bool → Bool → Option Bool
+        hears_if a b = elim a [ true ↦ elim b [ true ↦ Some (up_of c.attributes) | false ↦ None ] | false ↦ None ]
+
+        hearing : (a b : Bool) → has_id id c.attributes ≡ a → has_listener c.attributes ≡ b → hears c id ≡ hears_if a b
+        hearing a b e f =
+            ap (λ (o : Option Bool). elim (has_id id c.attributes) [ true ↦ o | false ↦ None ]) (listener_is c.attributes)
+            ∙ ap (λ (x : Bool). hears_if x (has_listener c.attributes)) e
+            ∙ ap (λ (x : Bool). hears_if a x) f
+
+        finding : (a b : Bool) → has_id id c.attributes ≡ a → has_listener c.attributes ≡ b → if_both (has_id id c.attributes) (has_listener c.attributes) (own_listener n) ≡ if_both a b (own_listener n)
+        finding a b e f = ap (λ (x : Bool). if_both x (has_listener c.attributes) (own_listener n)) e ∙ ap (λ (x : Bool). if_both a x (own_listener n)) f
+
+        go : (a b : Bool) → has_id id c.attributes ≡ a → has_listener c.attributes ≡ b
+            → RunsFrom (suc k) (moved (up_of c.attributes) v) (log ++ more) (own_reads (happens (length (log ++ more)))) ids → RunsFrom (suc k) v log reads ids → RunsFrom k v log reads (id ∷ ids)
+        go true true e f r s = heard id ids k v log reads f (finding true true e f) (hearing true true e f) (is_safe (up_of c.attributes) v (length ids) (omega arith)) r
+        go true false e f r s = unheard id ids k v log reads (finding true false e f) (hearing true false e f) s
+        go false b e f r s = unheard id ids k v log reads (finding false b e f) (hearing false b e f) s
+
+    -- the whole run, from the first render on
+    pub record RunsWhole (ids : List Text) : Type 0 where
+      pub entries : List Entry
+      pub run : Run p (λ w. w) (map click ids) entries
+      pub prints : output p entries ≡ first_output c ids
+
+    pub runs_whole : (mounts : (turns : ℕ) → entering p levels Pure [] (Closure component_site end false) (Ref 0 ∷ [])
+        (record { heap = Props end ∷ []; log = []; lines = []; turns = suc turns; trace = []; locals = end; hooking = Mounting [] [] [] }) ≡ Gives (view c.initial) (run_in c.initial [] turns (happens 0) (Mounting [] [] hooks)))
+        → (ids : List Text) → nat_abs c.initial + length ids ≤ 2000000 → RunsWhole ids
+    runs_whole mounts ids room =
+        let r = runs_from ids 1 c.initial [] (own_reads (happens 0)) room in
+        record {
+          entries = Played (record { none = false; lines = []; html = first_html c c.initial }) (world c.initial [] (own_reads (happens 0))) ∷ r.entries;
+          run = rendered limits (record { none = false; lines = []; html = first_html c c.initial })
+              (passes.session p levels page app idle c.initial [] [] 98 (happens 0 ++ happens 0) (passes.stood p levels page app idle (view c.initial) (own_reads (happens 0)) ∷ []) [] false)
+              (passes.renders p levels page app idle does.again (first_html c) (fits c n list tagged) c.initial mounts 98)
+              r.run;
+          prints = ap (λ (t : Text). t ++ output_from p 1 r.entries) (block_is c p 0 false c.initial (world c.initial [] (own_reads (happens 0))) (printed_is c.initial))
+              ∙ ap (λ (t : Text). (item_line 0 ++ html_line c c.initial) ++ t) r.prints;
+        }

@@ -1,0 +1,86 @@
+-- A counter: one element, whose click moves a number up or down by one, and what is printed when a script clicks at ids.
+use Rattle.std.specs.Prelude.{ℕ, suc, ℤ, pos, ◌+ℤ◌, ◌-ℤ◌, Bool, true, false, List, [], ◌∷◌, ◌++◌, Option, Some, None, codes}
+use Rattle.qk_ast.specs.Characters.{Characters, number_after}
+use Rattle.qk_ast.specs.First.{First_text, First_attribute, Id, On_click, Shape, Shown}
+use Rattle.qk_meaning.specs.Value.{Text}
+use Rattle.qk_meaning.specs.Texts.{same_text, decimal, integer_text}
+use Rattle.qk_meaning.specs.Output.{line}
+
+pub record Counter : Type 0 where
+  pub tag : Text
+  pub attributes : List First_attribute
+  -- the number before the first click
+  pub initial : ℤ
+  -- whether the element shows its number
+  pub shows : Bool
+
+-- ---- the counter of a module of the first form; its texts are letters, each of which is its own byte
+
+abbrev pub initial_of : Option Characters → ℤ
+initial_of (Some digits) = pos (number_after 10 0 digits)
+initial_of None = pos 0
+
+abbrev pub is_shown : Shape → Bool
+is_shown Shown = true
+is_shown _ = false
+
+abbrev pub counter_of : First_text → Counter
+counter_of f = record { tag = f.tag; attributes = f.attributes; initial = initial_of f.initial; shows = is_shown f.shape }
+
+-- ---- its element
+
+abbrev pub attribute_html : First_attribute → Text
+attribute_html (Id id) = codes " id=\"" ++ (id ++ codes "\"")
+attribute_html (On_click up) = []
+
+abbrev pub attributes_html : List First_attribute → Text
+attributes_html [] = []
+attributes_html (a ∷ more) = attribute_html a ++ attributes_html more
+
+abbrev pub shown_number : Counter → ℤ → Text
+shown_number c n = elim c.shows [ true ↦ integer_text n | false ↦ [] ]
+
+-- the HTML of the element at this number
+abbrev pub first_html : Counter → ℤ → Text
+first_html c n = codes "<" ++ (c.tag ++ (attributes_html c.attributes ++ (codes ">" ++ (shown_number c n ++ (codes "</" ++ (c.tag ++ codes ">"))))))
+
+-- ---- a click
+
+abbrev pub has_id : Text → List First_attribute → Bool
+has_id id [] = false
+has_id id (Id w ∷ more) = same_text w id
+has_id id (On_click up ∷ more) = has_id id more
+
+abbrev pub listener : List First_attribute → Option Bool
+listener [] = None
+listener (Id w ∷ more) = listener more
+listener (On_click up ∷ more) = Some up
+
+-- the listener that hears a click at this id, as whether it counts up; none where the element has another id or no listener
+abbrev pub hears : Counter → Text → Option Bool
+hears c id = elim (has_id id c.attributes) [ true ↦ listener c.attributes | false ↦ None ]
+
+abbrev pub moved : Bool → ℤ → ℤ
+moved true n = n +ℤ pos 1
+moved false n = n -ℤ pos 1
+
+-- ---- what is printed
+
+abbrev pub item_line : ℕ → Text
+item_line k = line (codes "item " ++ decimal k)
+
+abbrev pub html_line : Counter → ℤ → Text
+html_line c n = line (codes "html " ++ first_html c n)
+
+-- the blocks of the clicks at these ids, the first being item k, where the number is n before them
+abbrev pub first_blocks : Counter → ℕ → ℤ → List Text → Text
+first_blocks c k n [] = []
+first_blocks c k n (id ∷ more) =
+    elim (hears c id) [
+      | Some up ↦ (item_line k ++ html_line c (moved up n)) ++ first_blocks c (suc k) (moved up n) more
+      | None ↦ (item_line k ++ (line (codes "none") ++ html_line c n)) ++ first_blocks c (suc k) n more
+    ]
+
+-- all that is printed when a script clicks at these ids: the first render is item 0
+abbrev pub first_output : Counter → List Text → Text
+first_output c ids = (item_line 0 ++ html_line c c.initial) ++ first_blocks c 1 c.initial ids

@@ -1,0 +1,9 @@
+//! The first form of a module: what its run prints, said in the words of a counter.
+#![tactic(auto)]
+
+ghost use Rattle.qk_first.specs.Laws.{FirstRun};
+
+/// The run of a module of the first form, whose script clicks at ids, prints what its counter prints.
+pub fn first_run()
+    ensures { FirstRun }
+{}
