@@ -16,7 +16,7 @@ use Rattle.qk_meaning.specs.Expansion.{Nodes, Inside, Met, nothing_given, childr
 use Rattle.qk_meaning.specs.Session.{Session, runs, world_of, lines_in}
 use Rattle.qk_meaning.specs.Execution.{function_of, Execution, finished, stands, called_in, execution, mount, props_set, execute_again, taken, take_or_mount}
 use Rattle.qk_meaning.specs.Settling.{Spot, first_due, put_task, pass, run_task, is_quiet, round, settled_within}
-use Rattle.qk_meaning.proofs.Laws.{Relation, Laws}
+use Rattle.qk_meaning.proofs.Running_laws.{Relation, Laws}
 use Rattle.qk_meaning.proofs.Meanings.{enters_with, behind_turn}
 use Rattle.qk_meaning.proofs.Session_laws.{Session_relation, Session_laws, finishes, stand, sets_props, view_expands, visits}
 

@@ -22,11 +22,13 @@ pub record Spot : Type 0 where
   pub hook : ℕ
   pub task : Task
 
+-- the first due task among the hooks of an instance
 abbrev pub due_hook : List Loc → ℕ → ℕ → List Hook → Option Spot
 due_hook log i h [] = None
 due_hook log i h (Tasked task ∷ rest) = elim (is_due log task) [ true ↦ Some (record { instance = i; hook = h; task = task }) | false ↦ due_hook log i (suc h) rest ]
 due_hook log i h (_ ∷ rest) = due_hook log i (suc h) rest
 
+-- the first due task among instances
 abbrev pub due_from : List Loc → ℕ → List Instance → Option Spot
 due_from log i [] = None
 due_from log i (instance ∷ rest) = elim (due_hook log i 0 instance.hooks) [ Some spot ↦ Some spot | None ↦ due_from log (suc i) rest ]
@@ -40,6 +42,7 @@ put_hook n hook [] = []
 put_hook zero hook (h ∷ rest) = hook ∷ rest
 put_hook (suc n) hook (h ∷ rest) = h ∷ put_hook n hook rest
 
+-- the task at that place is this now
 abbrev pub put_task : ℕ → ℕ → Task → List Instance → List Instance
 put_task n h task [] = []
 put_task zero h task (i ∷ rest) = record i { hooks = put_hook h (Tasked task) i.hooks } ∷ rest

@@ -1,5 +1,6 @@
 -- When a world, or a session inside an item, stands for another, up to a pairing of addresses; and when two readings agree.
-use Rattle.std.specs.Prelude.{ℕ, Bool, List, [], ◌∷◌, ◌++◌, length, Option, Some, slice_get, ◌≡◌, ◌≤◌, ◌<◌}
+-- These are words for theorems on two readings of one application; none is proved of them yet.
+use Rattle.std.specs.Prelude.{ℕ, Bool, true, List, [], ◌∷◌, ◌++◌, length, Option, Some, slice_get, ◌≡◌, ◌≤◌, ◌<◌}
 use Rattle.std.specs.List.{list_any}
 use Rattle.qk_meaning.specs.Value.{Text, Site, Value, Values, Fields}
 use Rattle.qk_meaning.specs.World.{Object, Plain, Array, Signal, Computed, Props, Loc, Key, Step, Task, Hook, Kept, Provided, Tasked, Instance, World}
@@ -108,7 +109,7 @@ pub data Hooking_stands (c : Forms) (p : Pairing) (log log' : List Loc) : Hookin
 -- An arrow that is entered on both sides: by its site, or by its symbol.
 pub data Which_stands (c : Forms) : Which → Which → Type 0 where
   one_site : {site : Site} → Which_stands c (At_site site) (At_site (c.other site))
-  site_by_symbol : {site : Site} → Which_stands c (At_site site) (Of_symbol (symbol_of site))
+  site_by_symbol : {site : Site} → site.dollar ≡ true → Which_stands c (At_site site) (Of_symbol (symbol_of site))
   one_symbol : {symbol : Text} → Which_stands c (Of_symbol symbol) (Of_symbol symbol)
 
 -- What has happened, one by one; the lengths of the logs count for nothing.

@@ -5,3 +5,4 @@ pub mod Pieces
 pub mod Held
 pub mod Calls
 pub mod Memory
+pub mod Texts

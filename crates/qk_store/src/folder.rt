@@ -2,6 +2,7 @@
 // store should is trusted, and only the loops over its bytes are proved.
 ghost use Rattle.std.specs.Prelude.{◌≡◌, None, IfOk};
 ghost use Rattle.qk_store.specs.Answers.{content, IsWithin};
+ghost use Rattle.qk_store.specs.Causes.{HasCause};
 
 use crate::calls::one_more;
 use crate::stream::{read_within, write_whole};
@@ -44,33 +45,34 @@ impl<'a, R: Files> Store for DirStore<'a, R> {
 
     ghost faults = { λ s. s.faults };
 
-    #[tactic(auto, using(crate::proofs::Faults::store_failed))]
     fn read(&mut self, name: &str, most: usize) -> Result<Found, StoreFault> {
         let path = path_in(self.alloc, self.folder.as_str(), name)?;
-        match read_file(self.rt, self.alloc, path.as_str(), most) {
-            Err(StoreFault::Failed) => {
-                self.faults = one_more(self.faults);
-                Err(StoreFault::Failed)
-            }
-            answer => answer,
-        }
+        let answer = read_file(self.rt, self.alloc, path.as_str(), most);
+        counted(&mut self.faults, answer)
     }
 
-    #[tactic(auto, using(crate::proofs::Faults::store_failed, crate::proofs::FileLemmas::others_kept))]
+    #[tactic(auto, using(crate::proofs::FileLemmas::others_kept))]
     fn write(&mut self, name: &str, bytes: &[u8]) -> Result<(), StoreFault> {
         let path = path_in(self.alloc, self.folder.as_str(), name)?;
         if let Some(inner) = made_folder(name) {
             let inner = path_in(self.alloc, self.folder.as_str(), inner)?;
             make_folder(self.rt, inner.as_str());
         }
-        match write_file(self.rt, path.as_str(), bytes) {
-            Err(StoreFault::Failed) => {
-                self.faults = one_more(self.faults);
-                Err(StoreFault::Failed)
-            }
-            answer => answer,
-        }
+        let answer = write_file(self.rt, path.as_str(), bytes);
+        counted(&mut self.faults, answer)
     }
+}
+
+// The answer, which is counted where it is a failure.
+#[tactic(auto, using(crate::proofs::Faults::store_failed))]
+fn counted<T>(faults: &mut u64, answer: Result<T, StoreFault>) -> Result<T, StoreFault>
+    ensures answer { result ≡ answer }
+    ensures cause { HasCause StoreFault.Failed StoreFault.Memory faults.old faults.new result }
+{
+    if let Err(StoreFault::Failed) = &answer {
+        *faults = one_more(*faults);
+    }
+    answer
 }
 
 // The path of this name in a folder.

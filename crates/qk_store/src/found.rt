@@ -34,6 +34,11 @@ pub enum StoreFault {
 }
 
 impl fmt::Display for StoreFault {
+    ghost use Rattle.std.specs.Prelude.{Some};
+    ghost use Rattle.qk_store.specs.Texts.{store_fault_text};
+
+    ghost output = { λ fault. Some (store_fault_text fault) };
+
     fn fmt<W: fmt::Write>(&self, f: &mut fmt::Formatter<W>) -> fmt::Result {
         match self {
             StoreFault::Failed => write!(f, "the store failed"),

@@ -18,6 +18,11 @@ pub enum SinkFault {
 }
 
 impl fmt::Display for SinkFault {
+    ghost use Rattle.std.specs.Prelude.{Some};
+    ghost use Rattle.qk_store.specs.Texts.{sink_fault_text};
+
+    ghost output = { λ fault. Some (sink_fault_text fault) };
+
     fn fmt<W: fmt::Write>(&self, f: &mut fmt::Formatter<W>) -> fmt::Result {
         match self {
             SinkFault::Failed => write!(f, "the sink failed"),

@@ -1,4 +1,4 @@
--- The greatest safe integer, and one more. Written by tools/rows.mjs; not to be edited.
+-- The greatest safe integer, and one more.
 use Rattle.std.specs.Prelude.{◌≡◌, refl, true, List, [], ◌∷◌, codes, None}
 use Rattle.qk_ast.specs.declared.Module.{Module}
 use Rattle.qk_ast.specs.declared.Bin.{Bin}

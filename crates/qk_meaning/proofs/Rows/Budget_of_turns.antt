@@ -1,4 +1,4 @@
--- The budget of turns is given anew to each item. Written by tools/rows.mjs; not to be edited.
+-- The budget of turns is given anew to each item.
 use Rattle.std.specs.Prelude.{◌≡◌, refl, true, List, [], ◌∷◌, codes, None}
 use Rattle.qk_ast.specs.declared.Module.{Module}
 use Rattle.qk_meaning.specs.Sites.{Named_module}

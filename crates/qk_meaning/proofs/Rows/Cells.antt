@@ -1,4 +1,4 @@
--- Twenty cells from another module. Written by tools/rows.mjs; not to be edited.
+-- Twenty cells from another module.
 use Rattle.std.specs.Prelude.{◌≡◌, refl, true, false, List, [], ◌∷◌, codes, None}
 use Rattle.qk_ast.specs.declared.Module.{Module}
 use Rattle.qk_meaning.specs.Sites.{Named_module}

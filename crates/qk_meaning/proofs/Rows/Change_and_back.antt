@@ -1,4 +1,4 @@
--- A change and its undoing make a task due. Written by tools/rows.mjs; not to be edited.
+-- A change and its undoing make a task due.
 use Rattle.std.specs.Prelude.{◌≡◌, refl, true, List, [], ◌∷◌, codes, None}
 use Rattle.qk_ast.specs.declared.Module.{Module}
 use Rattle.qk_ast.specs.declared.Bin.{Bin}

@@ -1,4 +1,4 @@
--- A counter that is clicked three times. Written by tools/rows.mjs; not to be edited.
+-- A counter that is clicked three times.
 use Rattle.std.specs.Prelude.{◌≡◌, refl, true, List, [], ◌∷◌, codes, None}
 use Rattle.qk_ast.specs.declared.Module.{Module}
 use Rattle.qk_meaning.specs.Value.{Text}

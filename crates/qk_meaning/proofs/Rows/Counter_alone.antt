@@ -1,4 +1,4 @@
--- The counter, and no event. Written by tools/rows.mjs; not to be edited.
+-- The counter, and no event.
 use Rattle.std.specs.Prelude.{◌≡◌, refl, true, List, [], ◌∷◌, codes}
 use Rattle.qk_ast.specs.declared.Module.{Module}
 use Rattle.qk_meaning.specs.Value.{Text}

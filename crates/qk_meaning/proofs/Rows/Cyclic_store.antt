@@ -1,4 +1,4 @@
--- A store that holds a function which calls itself through the store. Written by tools/rows.mjs; not to be edited.
+-- A store that holds a function which calls itself through the store.
 use Rattle.std.specs.Prelude.{◌≡◌, refl, true, List, [], ◌∷◌, codes, None}
 use Rattle.qk_ast.specs.declared.Module.{Module}
 use Rattle.qk_ast.specs.declared.Expr.{Expr}

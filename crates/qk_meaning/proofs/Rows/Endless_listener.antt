@@ -1,4 +1,4 @@
--- A listener that doesn't end. Written by tools/rows.mjs; not to be edited.
+-- A listener that doesn't end.
 use Rattle.std.specs.Prelude.{◌≡◌, refl, true, List, [], ◌∷◌, codes, None}
 use Rattle.qk_ast.specs.declared.Module.{Module}
 use Rattle.qk_ast.specs.declared.Expr.{Expr}

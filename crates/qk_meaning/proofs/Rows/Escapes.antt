@@ -1,4 +1,4 @@
--- Characters that are escaped in texts, attributes and the state script. Written by tools/rows.mjs; not to be edited.
+-- Characters that are escaped in texts, attributes and the state script.
 use Rattle.std.specs.Prelude.{◌≡◌, refl, true, List, [], ◌∷◌, codes, Some}
 use Rattle.qk_ast.specs.declared.Module.{Module}
 use Rattle.qk_ast.specs.declared.AssignOp.{AssignOp}

@@ -1,4 +1,4 @@
--- Two elements with one id: the first has no listener. Written by tools/rows.mjs; not to be edited.
+-- Two elements with one id: the first has no listener.
 use Rattle.std.specs.Prelude.{◌≡◌, refl, true, List, [], ◌∷◌, codes, None}
 use Rattle.qk_ast.specs.declared.Module.{Module}
 use Rattle.qk_meaning.specs.Sites.{Named_module}

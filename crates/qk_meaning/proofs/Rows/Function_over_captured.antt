@@ -1,4 +1,4 @@
--- Plain functions of one site that differ in a captured value are not the same. Written by tools/rows.mjs; not to be edited.
+-- Plain functions of one site that differ in a captured value are not the same.
 use Rattle.std.specs.Prelude.{◌≡◌, refl, true, List, [], ◌∷◌, codes, None}
 use Rattle.qk_ast.specs.declared.Module.{Module}
 use Rattle.qk_ast.specs.declared.Expr.{Expr}

@@ -1,4 +1,4 @@
--- A function that a pause drops. Written by tools/rows.mjs; not to be edited.
+-- A function that a pause drops.
 use Rattle.std.specs.Prelude.{◌≡◌, refl, true, List, [], ◌∷◌, codes, None}
 use Rattle.qk_ast.specs.declared.Module.{Module}
 use Rattle.qk_ast.specs.declared.Expr.{Expr}

@@ -1,4 +1,4 @@
--- Text between tags over several lines. Written by tools/rows.mjs; not to be edited.
+-- Text between tags over several lines.
 use Rattle.std.specs.Prelude.{◌≡◌, refl, true, List, [], ◌∷◌, codes}
 use Rattle.qk_ast.specs.declared.Module.{Module}
 use Rattle.qk_meaning.specs.Value.{Text}

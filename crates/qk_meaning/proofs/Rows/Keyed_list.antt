@@ -1,4 +1,4 @@
--- A keyed list: instances move with their keys, and one that went is mounted anew. Written by tools/rows.mjs; not to be edited.
+-- A keyed list: instances move with their keys, and one that went is mounted anew.
 use Rattle.std.specs.Prelude.{◌≡◌, refl, true, List, [], ◌∷◌, codes, None}
 use Rattle.qk_ast.specs.declared.Module.{Module}
 use Rattle.qk_ast.specs.declared.AssignOp.{AssignOp}

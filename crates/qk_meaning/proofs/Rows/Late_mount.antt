@@ -1,4 +1,4 @@
--- A component that is mounted late writes what was shown before it. Written by tools/rows.mjs; not to be edited.
+-- A component that is mounted late writes what was shown before it.
 use Rattle.std.specs.Prelude.{◌≡◌, refl, true, List, [], ◌∷◌, codes}
 use Rattle.qk_ast.specs.declared.Module.{Module}
 use Rattle.qk_ast.specs.declared.AssignOp.{AssignOp}

@@ -1,4 +1,4 @@
--- A line logged in a computed. Written by tools/rows.mjs; not to be edited.
+-- A line logged in a computed.
 use Rattle.std.specs.Prelude.{◌≡◌, refl, true, List, [], ◌∷◌, codes}
 use Rattle.qk_ast.specs.declared.Module.{Module}
 use Rattle.qk_ast.specs.declared.Known.{Known}

@@ -1,4 +1,4 @@
--- Two fixed values can't be compared. Written by tools/rows.mjs; not to be edited.
+-- Two fixed values can't be compared.
 use Rattle.std.specs.Prelude.{◌≡◌, refl, true, List, [], ◌∷◌, codes, None}
 use Rattle.qk_ast.specs.declared.Module.{Module}
 use Rattle.qk_ast.specs.declared.Bin.{Bin}

@@ -1,4 +1,4 @@
--- A function made in a listener keeps what that listener captured and made. Written by tools/rows.mjs; not to be edited.
+-- A function made in a listener keeps what that listener captured and made.
 use Rattle.std.specs.Prelude.{◌≡◌, refl, true, List, [], ◌∷◌, codes, None}
 use Rattle.qk_ast.specs.declared.Module.{Module}
 use Rattle.qk_ast.specs.declared.Expr.{Expr}

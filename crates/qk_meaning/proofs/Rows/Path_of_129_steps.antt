@@ -1,4 +1,4 @@
--- Components in one another, and an element at a path of 129 steps. Written by tools/rows.mjs; not to be edited.
+-- Components in one another, and an element at a path of 129 steps.
 use Rattle.std.specs.Prelude.{◌≡◌, refl, true, List, [], ◌∷◌, codes}
 use Rattle.qk_ast.specs.declared.Module.{Module}
 use Rattle.qk_ast.specs.declared.Bin.{Bin}

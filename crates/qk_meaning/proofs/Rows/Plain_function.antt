@@ -1,4 +1,4 @@
--- A plain function in props can't be paused with. Written by tools/rows.mjs; not to be edited.
+-- A plain function in props can't be paused with.
 use Rattle.std.specs.Prelude.{◌≡◌, refl, true, List, [], ◌∷◌, codes, None}
 use Rattle.qk_ast.specs.declared.Module.{Module}
 use Rattle.qk_ast.specs.declared.Expr.{Expr}

@@ -1,4 +1,4 @@
--- Props that outlive their instance. Written by tools/rows.mjs; not to be edited.
+-- Props that outlive their instance.
 use Rattle.std.specs.Prelude.{◌≡◌, refl, true, false, List, [], ◌∷◌, codes, None}
 use Rattle.qk_ast.specs.declared.Module.{Module}
 use Rattle.qk_ast.specs.declared.Expr.{Expr}

@@ -1,4 +1,4 @@
--- A listener captures what its render read, and is made anew by the next render. Written by tools/rows.mjs; not to be edited.
+-- A listener captures what its render read, and is made anew by the next render.
 use Rattle.std.specs.Prelude.{◌≡◌, refl, true, List, [], ◌∷◌, codes, None}
 use Rattle.qk_ast.specs.declared.Module.{Module}
 use Rattle.qk_ast.specs.declared.Bin.{Bin}

@@ -1,4 +1,4 @@
--- Names that shadow others: a local named `track` around a task, a parameter, the name of a loop, a local of a listener. Written by tools/rows.mjs; not to be edited.
+-- Names that shadow others: a local named `track` around a task, a parameter, the name of a loop, a local of a listener.
 use Rattle.std.specs.Prelude.{◌≡◌, refl, true, false, List, [], ◌∷◌, codes, None}
 use Rattle.qk_ast.specs.declared.Module.{Module}
 use Rattle.qk_ast.specs.declared.Bin.{Bin}

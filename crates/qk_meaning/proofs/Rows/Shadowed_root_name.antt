@@ -1,4 +1,4 @@
--- A local that shadows a root name is captured by listeners, and by a plain function inside one. Written by tools/rows.mjs; not to be edited.
+-- A local that shadows a root name is captured by listeners, and by a plain function inside one.
 use Rattle.std.specs.Prelude.{◌≡◌, refl, true, false, List, [], ◌∷◌, codes, None}
 use Rattle.qk_ast.specs.declared.Module.{Module}
 use Rattle.qk_ast.specs.declared.Bin.{Bin}

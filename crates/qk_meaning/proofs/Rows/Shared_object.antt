@@ -1,4 +1,4 @@
--- One object in two signals. Written by tools/rows.mjs; not to be edited.
+-- One object in two signals.
 use Rattle.std.specs.Prelude.{◌≡◌, refl, true, List, [], ◌∷◌, codes, None}
 use Rattle.qk_ast.specs.declared.Module.{Module}
 use Rattle.qk_ast.specs.declared.Expr.{Expr}

@@ -1,4 +1,4 @@
--- One object in two signals, and no event: the page's heap has it once. Written by tools/rows.mjs; not to be edited.
+-- One object in two signals, and no event: the page's heap has it once.
 use Rattle.std.specs.Prelude.{◌≡◌, refl, true, List, [], ◌∷◌, codes}
 use Rattle.qk_ast.specs.declared.Module.{Module}
 use Rattle.qk_ast.specs.declared.Expr.{Expr}

@@ -1,4 +1,4 @@
--- Slots and contexts. Written by tools/rows.mjs; not to be edited.
+-- Slots and contexts.
 use Rattle.std.specs.Prelude.{◌≡◌, refl, true, List, [], ◌∷◌, codes}
 use Rattle.qk_ast.specs.declared.Module.{Module}
 use Rattle.qk_meaning.specs.Value.{Text}

@@ -1,4 +1,4 @@
--- A list of things to do, in two modules. Written by tools/rows.mjs; not to be edited.
+-- A list of things to do, in two modules.
 use Rattle.std.specs.Prelude.{◌≡◌, refl, true, false, List, [], ◌∷◌, codes, Some, None}
 use Rattle.qk_ast.specs.declared.Module.{Module}
 use Rattle.qk_ast.specs.declared.Expr.{Expr}

@@ -1,4 +1,4 @@
--- A task tracks a nested property. Written by tools/rows.mjs; not to be edited.
+-- A task tracks a nested property.
 use Rattle.std.specs.Prelude.{◌≡◌, refl, true, List, [], ◌∷◌, codes, None}
 use Rattle.qk_ast.specs.declared.Module.{Module}
 use Rattle.qk_ast.specs.declared.Bin.{Bin}

@@ -1,4 +1,4 @@
--- A paragraph without a listener, and an id that isn't there. Written by tools/rows.mjs; not to be edited.
+-- A paragraph without a listener, and an id that isn't there.
 use Rattle.std.specs.Prelude.{◌≡◌, refl, true, List, [], ◌∷◌, codes, None}
 use Rattle.qk_ast.specs.declared.Module.{Module}
 use Rattle.qk_meaning.specs.Value.{Text}

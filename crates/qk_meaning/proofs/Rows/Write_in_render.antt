@@ -1,4 +1,4 @@
--- A write in a render. Written by tools/rows.mjs; not to be edited.
+-- A write in a render.
 use Rattle.std.specs.Prelude.{◌≡◌, refl, true, List, [], ◌∷◌, codes}
 use Rattle.qk_ast.specs.declared.Module.{Module}
 use Rattle.qk_ast.specs.declared.AssignOp.{AssignOp}
