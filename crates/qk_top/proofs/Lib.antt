@@ -1,3 +1,5 @@
+pub mod Comings
+pub mod Readings
 pub mod Shapes
 pub mod Outputs
 pub mod Plays

@@ -153,7 +153,7 @@ read_as f fits n initial jsx result first made element =
     let r = rolled n f.shape f.name f.tag f.attributes in
     let tagged = ap (λ x. roll-Jsx (record { tag = x; attrs = attributes_tree n (attributes_of f.name f.attributes); children = r.children })) (tag_is f.tag fits.tagged) in
     some_and result _ _ (λ kept k. plays_as f fits n kept r.children r.shown (subst (λ i. KeepsElement kept i f.tag (attributes_tree n (attributes_of f.name f.attributes)) r.children) first k))
-        (element f.tag (attributes_tree n (attributes_of f.name f.attributes)) r.children (made ∙ r.made ∙ tagged))
+    (element f.tag (attributes_tree n (attributes_of f.name f.attributes)) r.children (made ∙ r.made ∙ tagged))
 
 -- a number handed on in its bits
 pub in_bits : (f : First_text) → Fits f → (initial : ℤ) → initial ≡ initial_of f.initial → to_z w64 (of_z w64 initial) ≡ initial_of f.initial

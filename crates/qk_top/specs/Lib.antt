@@ -2,5 +2,9 @@ pub mod Words
 pub mod Lines
 pub mod Script
 pub mod Shape
-pub mod Standing
 pub mod Blocks
+pub mod Standing
+pub mod Answers
+pub mod Stops
+pub mod Sources
+pub mod Coming

@@ -3,6 +3,9 @@
 
 mod blocks;
 mod play;
+mod replay;
 mod script;
 mod shape;
+mod sources;
+mod stop;
 mod words;

@@ -14,5 +14,5 @@ pub returns : goal.returns
 returns c f fits e =
     let a = c.in_ok-statements.ensures _ _ _ _ _ _ (ap (λ m. m.items) (sym e) ∙ items_are f) in
     let p = parts_read f (λ n j. (c.in_ok-initial.initial ≡ n) × (c.in_ok-initial.jsx.now ≡ j))
-        (λ p g n j h. c.in_ok-initial.ensures.stateful p g n j (a ∙ h)) (λ j h. c.in_ok-initial.ensures.stateless j (a ∙ h)) in
+    (λ p g n j h. c.in_ok-initial.ensures.stateful p g n j (a ∙ h)) (λ j h. c.in_ok-initial.ensures.stateless j (a ∙ h)) in
     read_as f fits p.0 _ _ _ (in_bits f fits _ p.1.0) p.1.1 c.element.ensures
