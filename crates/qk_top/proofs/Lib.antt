@@ -1,3 +1,4 @@
+pub mod Ends
 pub mod Comings
 pub mod Readings
 pub mod Shapes

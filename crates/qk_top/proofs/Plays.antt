@@ -18,7 +18,7 @@ use Rattle.qk_first.specs.Counter.{Counter, hears, moved}
 use Rattle.qk_top.specs.Blocks.{first_text, click_text, clicks_texts, played_text, clicked, moves}
 
 -- one piece behind another
-pieces_join : (a b : List ℕ) (o : Option (List ℕ)) → option_map (with_piece b) (option_map (with_piece a) o) ≡ option_map (with_piece (a ++ b)) o
+pub pieces_join : (a b : List ℕ) (o : Option (List ℕ)) → option_map (with_piece b) (option_map (with_piece a) o) ≡ option_map (with_piece (a ++ b)) o
 pieces_join a b None = refl
 pieces_join a b (Some put) = ap Some (append_assoc put a b)
 

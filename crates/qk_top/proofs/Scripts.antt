@@ -5,7 +5,7 @@ use Rattle.std.specs.List.{list_all, position, position_or_len}
 use Rattle.std.proofs.lemmas.List.Sums.{fails_before_first}
 use Rattle.std.proofs.lemmas.Bool.{false≢true, eqb-true, eq-eqb}
 use Rattle.std.proofs.lemmas.List.Quantifiers.{position-Some}
-use Rattle.std.proofs.lemmas.List.{get_or-take, length-take, take_rest}
+use Rattle.std.proofs.lemmas.List.{append_cancel_right, get_or-take, length-take, take_rest}
 use Rattle.std.proofs.lemmas.List.{map-append}
 use Rattle.std.proofs.Math.Seq.{split_at}
 use Rattle.qk_ast.specs.Characters.{every, is_small_letter}
@@ -218,3 +218,36 @@ seen_more f ids id more e = ap (map f) e ∙ map-append f ids (id ∷ [])
 -- a whole text that was read
 pub read_all : (text : Text) (done : List Text) → length text ≤ 65536 → IsRead text done [] → IsFirstScript text done
 read_all text done short read = record { short = short; words = read.words; spelled = subst (Clicks text) (append-nil done) (read.onward [] (inl refl)) }
+
+-- ---- a text clicks at one list of ids
+
+-- the last line may lack its line feed; where lines follow, it doesn't
+feed_ends : (xs ys : Text) → line xs ≡ line ys → xs ≡ ys
+feed_ends xs ys e = append_cancel_right xs ys (10 ∷ []) e
+
+-- lines end with a line feed
+clicks_end : (id : Text) (more : List Text) → (text : Text) × (clicks_text (id ∷ more) ≡ line text)
+clicks_end id [] = (click_line id, append-nil (line (click_line id)))
+clicks_end id (next ∷ more) =
+    let rest = clicks_end next more in
+    (line (click_line id) ++ rest.0, ap (λ r. line (click_line id) ++ r) rest.1 ∙ sym (append_assoc (line (click_line id)) rest.0 (10 ∷ [])))
+
+cut_last : (text id : Text) (more : List Text) → IsShortWord id → line text ≡ clicks_text (id ∷ more) → (after : Text) × IsCut text (click_line id) after
+cut_last text id [] word e = ([], record { plain = click_no_feed id word; parts = inr (feed_ends text (click_line id) (e ∙ append-nil (line (click_line id))), refl) })
+cut_last text id (next ∷ more) word e =
+    let ending = clicks_end next more in
+    (ending.0, record { plain = click_no_feed id word; parts = inl (feed_ends text (click_line id ++ (10 ∷ ending.0))
+        (e ∙ ap (λ r. line (click_line id) ++ r) ending.1 ∙ line_then (click_line id) (line ending.0) ∙ sym (line_behind (click_line id) ending.0))) })
+
+cut_clicks : (text id : Text) (more : List Text) → IsShortWord id → Clicks text (id ∷ more) → (after : Text) × IsCut text (click_line id) after
+cut_clicks text id more word (inl e) = (clicks_text more, record { plain = click_no_feed id word; parts = inl (e ∙ line_then (click_line id) (clicks_text more)) })
+cut_clicks text id more word (inr e) = cut_last text id more word e
+
+pub one_clicks : (text : Text) (ids others : List Text) → AreShortWords ids → AreShortWords others → Clicks text ids → Clicks text others → ids ≡ others
+one_clicks text [] others words others_words a b = sym (clicks_nil others (subst (λ t. Clicks t others) (clicks_none text a) b))
+one_clicks text (id ∷ more) [] words others_words a b = clicks_nil (id ∷ more) (subst (λ t. Clicks t (id ∷ more)) (clicks_none text b) a)
+one_clicks text (id ∷ more) (other ∷ others) words others_words a b =
+    let cut = cut_clicks text id more words.0 a in
+    let mine = clicks_first text (click_line id) cut.0 id more cut.1 words.0 a in
+    let theirs = clicks_first text (click_line id) cut.0 other others cut.1 others_words.0 b in
+    ap (λ i. i ∷ more) (same_id id other theirs.0) ∙ ap (λ r. other ∷ r) (one_clicks cut.0 more others words.1 others_words.1 mine.1 theirs.1)

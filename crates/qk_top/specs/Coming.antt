@@ -1,20 +1,15 @@
 -- What comes of a command, as far as the store tells its files.
 use Rattle.std.specs.Prelude.{◌≡◌, ◌⊎◌, ℕ, List, Option, Some, None, Result, Ok, Err}
-use Rattle.std.specs.Option.{option_map}
 use Rattle.qk_ast.specs.declared.Module.{Module}
 use Rattle.qk_ast.specs.First.{HasFirstForm}
 use Rattle.qk_store.specs.Files.{Files}
-use Rattle.qk_store.specs.Pieces.{with_piece, AppendsFront}
+use Rattle.qk_store.specs.Pieces.{AppendsFront}
 use Rattle.qk_meaning.specs.Value.{Text}
 use Rattle.qk_top.specs.declared.stop.ApplicationRefusal.TheVariants as application
 use Rattle.qk_top.specs.declared.stop.Stop.{Stop}
 use Rattle.qk_top.specs.declared.stop.Stop.TheVariants.{Usage, Script, Application, StoreFailed, SinkFailed, Memory}
 use Rattle.qk_top.specs.Answers.{root_name, IsUsage, RefusedScript, RefusedApplication, IsAccepted, IsOutput}
-use Rattle.qk_top.specs.Stops.{script_kind, application_kind}
-
--- all of the text was put
-abbrev pub IsPut : Text → Option Text → Option Text → Type 0
-IsPut text before after = after ≡ option_map (with_piece text) before
+use Rattle.qk_top.specs.Stops.{script_kind, application_kind, IsPut}
 
 -- `root.jsx` derives a module, and this is what is printed of it
 pub record RootPlays (told : Files) (ids : List Text) (text : Text) : Type 0 where

@@ -8,3 +8,4 @@ pub mod Answers
 pub mod Stops
 pub mod Sources
 pub mod Coming
+pub mod Run

@@ -2,6 +2,7 @@
 #![tactic(auto)]
 
 mod blocks;
+mod command;
 mod play;
 mod replay;
 mod script;
@@ -9,3 +10,5 @@ mod shape;
 mod sources;
 mod stop;
 mod words;
+
+pub use command::run;

@@ -19,7 +19,7 @@ pub returns-in-Ok-Some-clause-comes : goal.returns-in-Ok-Some-clause-comes
 returns-in-Ok-Some-clause-comes g c told e =
     let script = subst (λ o. IfSome o (λ ids. IsFirstScript c.as_slice.result.now (map (λ id. id.now) ids.items))) c.in-Ok-Some.field-0-is c.in-Ok-Some.ensures.some in
     root_ended _ told _ _ _ _ (plays_clicks (λ id. id.now) _ told _ _ _ _ _ c.in-Some.ensures.some (c.in_ok-text.ensures.found told e) c.as_slice.ensures.value c.as_slice-in-Ok-Some.ensures.value script)
-        (c.replay_clicks.ensures.comes told (c.in_ok-text.ensures.files ∙ e))
+    (c.replay_clicks.ensures.comes told (c.in_ok-text.ensures.files ∙ e))
 
 pub returns-in-Ok-None-clause-comes : goal.returns-in-Ok-None-clause-comes
 returns-in-Ok-None-clause-comes g c told e =
