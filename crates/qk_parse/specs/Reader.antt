@@ -8,6 +8,7 @@ use Rattle.qk_ast.specs.declared.Expr.TheVariants as e
 use Rattle.qk_ast.specs.declared.Stmt.{Stmt}
 use Rattle.qk_ast.specs.declared.Stmt.TheVariants as s
 use Rattle.qk_ast.specs.declared.Link.TheVariants as l
+use Rattle.qk_ast.specs.declared.Body.{Body}
 use Rattle.qk_ast.specs.declared.Body.TheVariants as b
 use Rattle.qk_ast.specs.declared.Pattern.TheVariants as p
 use Rattle.qk_ast.specs.declared.Tag.TheVariants as t
@@ -24,17 +25,40 @@ use Rattle.qk_parse.specs.Input.{Outcome, Reader, ◌>>=◌, ◌>>◌, pure, ref
 abbrev pub bytes : Characters → List ℕ
 bytes = encode_utf8_all
 
+-- ---- trees
+
+abbrev pub called : List ℕ → Expr → Expr
+called f x = e.Post (e.Name f) (l.Call (x ∷ []) ∷ [])
+
+-- an arrow without parameters
+abbrev pub arrow : ℕ → Body → Expr
+arrow n body = e.Arrow (record { place = n; params = []; body = body })
+
 -- ---- the import
+
+abbrev pub is_new : Characters → List (List ℕ) → Bool
+is_new it found = is_one_of it qwik_names && not (is_one_of it found)
+
+-- a name of the framework that wasn't found yet
+unfoldable pub name : List (List ℕ) → Reader (List ℕ)
+name found = do
+  it ← word Code
+  if is_new it found then pure (bytes it) else refuse
+
+-- whether another name follows; where none does the closing brace is taken
+unfoldable pub more : Reader Bool
+more = do
+  comma ← eat (codes ",")
+  ended ← eat (codes "}")
+  if ended then pure false else (if comma then pure true else refuse)
 
 -- names up to the closing brace, each once
 unfoldable pub names_from : ℕ → List (List ℕ) → Reader (List (List ℕ))
 names_from zero found = refuse
 names_from (suc n) found = do
-  name ← word Code
-  if is_one_of name qwik_names && not (is_one_of name found) then (do
-    comma ← eat (codes ",")
-    ended ← eat (codes "}")
-    if ended then pure (found ++ bytes name ∷ []) else (if comma then names_from n (found ++ bytes name ∷ []) else refuse)) else refuse
+  it ← name found
+  goes_on ← more
+  if goes_on then names_from n (found ++ it ∷ []) else pure (found ++ it ∷ [])
 
 unfoldable pub names : Reader (List (List ℕ))
 names i = names_from (length i) [] i
@@ -129,7 +153,7 @@ click_attribute it = do
   target ← value it
   up ← bump
   expect (codes "}")
-  pure (record { key = codes "onClick$"; value = e.Arrow (record { place = 1; params = []; body = b.Value (e.Step up target) }) })
+  pure (record { key = codes "onClick$"; value = arrow 1 (b.Value (e.Step up target)) })
 
 unfoldable pub attribute : Option Signal → Reader (Option Field)
 attribute it = do
@@ -182,21 +206,17 @@ element it = do
 
 -- ---- the module
 
-abbrev pub called : List ℕ → Expr → Expr
-called f x = e.Post (e.Name f) (l.Call (x ∷ []) ∷ [])
-
 abbrev pub statements : Option Signal → Jsx → List Stmt
 statements None jsx = s.Return (Some (e.Jsx jsx)) ∷ []
 statements (Some it) jsx = s.Const (p.Name (bytes it.name)) (called (codes "useSignal") (e.Int (pos it.initial))) ∷ s.Return (Some (e.Jsx jsx)) ∷ []
 
-abbrev pub module_with : Import → Option Signal → Jsx → Module
-module_with import' it jsx = record {
+abbrev pub component : Option Signal → Jsx → Expr
+component it jsx = called (codes "component$") (arrow 0 (b.Block (statements it jsx)))
+
+abbrev pub module_with : Import → Expr → Module
+module_with import' component' = record {
   imports = import' ∷ [];
-  items = record {
-    exported = true;
-    name = codes "App";
-    init = called (codes "component$") (e.Arrow (record { place = 0; params = []; body = b.Block (statements it jsx) }));
-  } ∷ [];
+  items = record { exported = true; name = codes "App"; init = component' } ∷ [];
 }
 
 -- a signal stands only under an import of `useSignal`
@@ -233,4 +253,4 @@ first = do
   it ← state
   jsx ← element it
   closing
-  if may_stand it import'.names then pure (module_with import' it jsx) else refuse
+  if may_stand it import'.names then pure (module_with import' (component it jsx)) else refuse

@@ -9,8 +9,8 @@ ghost use Rattle.qk_parse.specs.Reader as spec;
 
 use crate::fault::Fault;
 use crate::source::{Kind, Source, Word, is_digit, is_same};
-use crate::tree::{called, empty, one, text, two};
-use qk_ast::{Arrow, Body, Expr, Field, Import, Item, Jsx, Link, Module, Pattern, Stmt, Tag};
+use crate::tree::{arrow, called, empty, one, text, two};
+use qk_ast::{Body, Expr, Field, Import, Item, Jsx, Link, Module, Pattern, Stmt, Tag};
 use qk_shared::{Builder, List, Shared, Text};
 use std::alloc::{AllocError, Global};
 
@@ -134,6 +134,47 @@ fn is_short_word(word: &[u8]) -> bool
     is_small(word) && 0 < word.len() && word.len() <= 8
 }
 
+fn is_qwik_name(word: &[u8]) -> bool
+    ensures { result ≡ chars.is_one_of word.now form.qwik_names }
+{
+    is_one_of(word, &QWIK_NAMES)
+}
+
+/// Whether it is one of the framework's names and none of those.
+fn is_new(word: &[u8], found: &[Text]) -> bool
+    ensures { result ≡ spec.is_new word.now found.now }
+{
+    is_qwik_name(word) && !has(found, word)
+}
+
+/// A name of the framework that wasn't found yet.
+#[tactic(auto, unfolding(crate::specs::Reader::name))]
+fn name(alloc: Global, source: &mut Source<'_>, found: &[Text]) -> Result<Text, Fault>
+    ensures { Reads (spec.name found.now source.old) result source.new }
+{
+    let word = source.word(Kind::Code).as_bytes();
+    if !is_new(word, found) {
+        return Err(Fault::Refused);
+    }
+    Ok(text(alloc, word)?)
+}
+
+/// Whether another name follows. Where none does the closing brace is taken.
+#[tactic(auto, unfolding(crate::specs::Reader::more))]
+fn more(source: &mut Source<'_>) -> Result<bool, Fault>
+    ensures { Reads (spec.more source.old) result source.new }
+{
+    let comma = source.eat(b",");
+    if source.eat(b"}") {
+        return Ok(false);
+    }
+    if comma {
+        Ok(true)
+    } else {
+        Err(Fault::Refused)
+    }
+}
+
 /// The names between the braces of an import, each one of the framework's and none twice, and the closing brace.
 #[tactic(auto, unfolding(crate::specs::Reader::names_from, crate::specs::Reader::names))]
 fn names(alloc: Global, source: &mut Source<'_>) -> Result<List<Text>, Fault>
@@ -141,17 +182,10 @@ fn names(alloc: Global, source: &mut Source<'_>) -> Result<List<Text>, Fault>
 {
     let mut found = Builder::new(alloc);
     for _turn in 0..source.left() {
-        let name = source.word(Kind::Code);
-        if !is_one_of(name.as_bytes(), &QWIK_NAMES) || has(found.as_slice(), name.as_bytes()) {
-            return Err(Fault::Refused);
-        }
-        found.push(text(alloc, name.as_bytes())?)?;
-        let comma = source.eat(b",");
-        if source.eat(b"}") {
+        let name = name(alloc, source, found.as_slice())?;
+        found.push(name)?;
+        if !more(source)? {
             return Ok(found.into_list(alloc)?);
-        }
-        if !comma {
-            return Err(Fault::Refused);
         }
     }
     Err(Fault::Refused)
@@ -332,13 +366,8 @@ fn click_attribute(
     let up = bump(source)?;
     source.expect(b"}")?;
     let step = Expr::Step(up, Shared::new(alloc, target)?);
-    let arrow = Arrow {
-        place: 1,
-        params: empty(alloc)?,
-        body: Body::Value(Shared::new(alloc, step)?),
-    };
+    let value = arrow(alloc, 1, Body::Value(Shared::new(alloc, step)?))?;
     let key = Text::from_str(alloc, "onClick$")?;
-    let value = Expr::Arrow(Shared::new(alloc, arrow)?);
     Ok(Field { key, value })
 }
 
@@ -464,24 +493,27 @@ fn statements(
     two(alloc, Stmt::Const(pattern, init), end)
 }
 
-fn module_with(
+/// The component that `App` is.
+fn component(
     alloc: Global,
-    import: Import,
     signal: &Option<Signal<'_>>,
     element: Jsx,
-) -> Result<Module, AllocError>
-    ensures { IfOk result (λ it. it ≡ spec.module_with import signal.now element) }
+) -> Result<Expr, AllocError>
+    ensures { IfOk result (λ it. it ≡ spec.component signal.now element) }
 {
-    let arrow = Arrow {
-        place: 0,
-        params: empty(alloc)?,
-        body: Body::Block(statements(alloc, signal, element)?),
-    };
-    let component = Expr::Arrow(Shared::new(alloc, arrow)?);
+    let body = Body::Block(statements(alloc, signal, element)?);
+    let arrow = arrow(alloc, 0, body)?;
+    let name = Text::from_str(alloc, "component$")?;
+    Ok(called(alloc, name, arrow)?)
+}
+
+fn module_with(alloc: Global, import: Import, component: Expr) -> Result<Module, AllocError>
+    ensures { IfOk result (λ it. it ≡ spec.module_with import component) }
+{
     let item = Item {
         exported: true,
         name: Text::from_str(alloc, "App")?,
-        init: called(alloc, Text::from_str(alloc, "component$")?, component)?,
+        init: component,
     };
     Ok(Module {
         imports: one(alloc, import)?,
@@ -518,6 +550,13 @@ fn closing(source: &mut Source<'_>) -> Result<(), Fault>
     source.finish()
 }
 
+/// Whether the signal, if there is one, has its import.
+fn may_stand(signal: &Option<Signal<'_>>, imported: &[Text]) -> bool
+    ensures { result ≡ spec.may_stand signal.now imported.now }
+{
+    signal.is_none() || has(imported, b"useSignal")
+}
+
 /// The module of the whole text.
 #[tactic(auto, unfolding(crate::specs::Reader::first))]
 pub fn first(alloc: Global, source: &mut Source<'_>) -> Result<Module, Fault>
@@ -528,8 +567,9 @@ pub fn first(alloc: Global, source: &mut Source<'_>) -> Result<Module, Fault>
     let signal = state(source)?;
     let element = element(alloc, source, &signal)?;
     closing(source)?;
-    if signal.is_some() && !has(import.names.as_slice(), b"useSignal") {
+    if !may_stand(&signal, import.names.as_slice()) {
         return Err(Fault::Refused);
     }
-    Ok(module_with(alloc, import, &signal, element)?)
+    let component = component(alloc, &signal, element)?;
+    Ok(module_with(alloc, import, component)?)
 }

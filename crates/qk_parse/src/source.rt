@@ -97,7 +97,10 @@ fn after_blanks(mut text: &[u8]) -> &[u8]
 }
 
 /// How long the word at the front is.
-fn word_len(kind: Kind, text: &[u8]) -> usize {
+#[tactic(auto, unfolding(crate::specs::Input::word_of))]
+fn word_len(kind: Kind, text: &[u8]) -> usize
+    ensures { result ≡ length (spec.word_of kind text.now) }
+{
     let mut len = 0;
     for byte in text {
         if !continues(kind, *byte) {
@@ -123,6 +126,7 @@ impl<'a> Source<'a> {
     }
 
     /// Takes the word that stands at once, maybe an empty one.
+    #[tactic(auto, using(crate::proofs::Words::take_word, crate::proofs::Words::drop_word, crate::proofs::Words::word_fits))]
     pub fn word_here(&mut self, kind: Kind) -> Word<'a>
         ensures found { result ≡ spec.word_of kind self.old }
         ensures after { self.new ≡ spec.after_word kind self.old }
@@ -142,6 +146,7 @@ impl<'a> Source<'a> {
     }
 
     /// Takes the sign where it stands at once.
+    #[tactic(auto, using(crate::proofs::Words::front_is))]
     pub fn eat_here(&mut self, sign: &[u8]) -> bool
         ensures found { result ≡ chars.is_front sign.now self.old }
         ensures after { self.new ≡ (if chars.is_front sign.now self.old then spec.past sign.now self.old else self.old) }
@@ -156,7 +161,7 @@ impl<'a> Source<'a> {
     }
 
     /// Whether the sign stands there, after blanks.
-    #[tactic(auto, unfolding(crate::specs::Input::sees))]
+    #[tactic(auto, using(crate::proofs::Words::starts_is), unfolding(crate::specs::Input::sees))]
     pub fn sees(&self, sign: &[u8]) -> bool
         ensures { result ≡ spec.sees sign.now self.now }
     {
@@ -164,7 +169,7 @@ impl<'a> Source<'a> {
     }
 
     /// Takes the blanks and the sign, where it stands there.
-    #[tactic(auto, unfolding(crate::specs::Input::sees, crate::specs::Input::after))]
+    #[tactic(auto, using(crate::proofs::Words::front_is), unfolding(crate::specs::Input::sees, crate::specs::Input::after))]
     pub fn eat(&mut self, sign: &[u8]) -> bool
         ensures found { result ≡ spec.sees sign.now self.old }
         ensures after { self.new ≡ (if spec.sees sign.now self.old then spec.after sign.now self.old else self.old) }

@@ -4,11 +4,12 @@ ghost use Rattle.std.specs.Prelude.{◌≡◌, [], ◌∷◌, IfOk};
 ghost use Rattle.std.specs.Str.{encode_utf8_all};
 ghost use Rattle.qk_parse.specs.Reader as spec;
 
-use qk_ast::{Expr, Link};
+use qk_ast::{Arrow, Body, Expr, Link};
 use qk_shared::{List, Shared, Text};
 use std::alloc::{AllocError, Global};
 
 /// The text of these characters, each of which is its byte's number.
+#[tactic(auto, using(crate::proofs::Words::text_more))]
 pub fn text(alloc: Global, characters: &[u8]) -> Result<Text, AllocError>
     ensures { IfOk result (λ t. t ≡ encode_utf8_all characters.now) }
 {
@@ -51,4 +52,16 @@ pub fn called(alloc: Global, f: Text, argument: Expr) -> Result<Expr, AllocError
         Shared::new(alloc, Expr::Name(f))?,
         one(alloc, call)?,
     ))
+}
+
+/// An arrow without parameters, the one with this number in its module.
+pub fn arrow(alloc: Global, place: u32, body: Body) -> Result<Expr, AllocError>
+    ensures { IfOk result (λ x. x ≡ spec.arrow place body) }
+{
+    let arrow = Arrow {
+        place,
+        params: empty(alloc)?,
+        body,
+    };
+    Ok(Expr::Arrow(Shared::new(alloc, arrow)?))
 }
