@@ -1,0 +1,9 @@
+use Rattle.qk_parse.proofs.parse_first.Goals as goal
+use Rattle.qk_parse.proofs.Steps as steps
+use Rattle.qk_parse.proofs.Standing as standing
+
+pub returns-in-Ok : goal.returns-in-Ok
+returns-in-Ok c = ?
+
+pub returns-in-Err-Refused : goal.returns-in-Err-Refused
+returns-in-Err-Refused c = ?
