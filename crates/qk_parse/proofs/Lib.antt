@@ -1,4 +1,6 @@
+pub mod Names
 pub mod Standing
 pub mod Steps
+pub mod Trees
 pub mod Turns
 pub mod Words

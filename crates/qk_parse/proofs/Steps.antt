@@ -2,11 +2,12 @@
 use Rattle.std.specs.Prelude.{◌≡◌, refl, ℕ, Bool, true, false, not, ◌&&◌, ◌||◌, ◌==◌, if◌then◌else◌, nat_lt, nat_le, List, [], ◌∷◌, ◌++◌, length, drop, Option, Some, None, Result, Ok, Err, codes, IsTrue}
 use mathlib.Core.Path.{sym, ◌∙◌, ap, subst}
 use native.Mathlib.Omega.{arith}
+use lib.Dec.{eqb-suc-zero}
 use Rattle.std.proofs.lemmas.Bool.{false≢true, eq-eqb}
 use Rattle.std.proofs.lemmas.Bool.Decides.{nat_tests}
 use Rattle.std.proofs.lemmas.List.{drop_at}
 use Rattle.qk_ast.specs.Characters.{Characters, same, every, begins_with, is_front, is_blank, is_letter, is_digit, continues_name}
-use Rattle.qk_ast.specs.Tokens.{Token, Blank, Space, Line, Block, Around, after, spelling, gap_spelling, is_token, is_gap, are_blanks, ends_word}
+use Rattle.qk_ast.specs.Tokens.{Token, Blank, Space, Line, Block, Around, Children, after, spelling, gap_spelling, is_token, is_gap, are_blanks, ends_word}
 use Rattle.qk_ast.specs.First.{is_only_space}
 use Rattle.qk_ast.proofs.FrontToken.{left, right, if_true, if_false, same_is}
 use Rattle.qk_parse.specs.declared.source.Kind.{Kind}
@@ -85,9 +86,12 @@ skipped (Space c ∷ gap) t s b = if_true _ _ (left (is_blank c) _ b) ∙ skippe
 skipped (Line a ∷ gap) t s b = absurd (false≢true s)
 skipped (Block a ∷ gap) t s b = absurd (false≢true s)
 
+pub put_solid : {around : Around} {before : Option Token} {t : Token} {i j : Characters} → Put around before t i j → begins_with is_solid (spelling t j) ≡ true → after_blanks i ≡ spelling t j
+put_solid {around} {before} {t} {i} {j} p solid =
+    ap after_blanks p.parts ∙ (skipped p.gap (spelling t j) p.spaces (gap_blanks around p.gap (spelling t j) p.fits) ∙ solid_stays (spelling t j) solid)
+
 pub put_after : {around : Around} {before : Option Token} {t : Token} {i j : Characters} (s : Characters) → Put around before t i j → spelling t j ≡ s ++ j → begins_with is_solid (s ++ j) ≡ true → after_blanks i ≡ s ++ j
-put_after {around} {before} {t} {i} {j} s p e solid = ap after_blanks p.parts ∙ (skipped p.gap (spelling t j) p.spaces (gap_blanks around p.gap (spelling t j) p.fits)
-    ∙ (ap after_blanks e ∙ solid_stays (s ++ j) solid))
+put_after s p e solid = put_solid p (ap (λ t. begins_with is_solid t) e ∙ solid) ∙ e
 
 pub put_ascii : {around : Around} {before : Option Token} {t : Token} {i j : Characters} (s : Characters) → Put around before t i j → spelling t j ≡ s ++ j → IsTrue (is_ascii i) → IsTrue (is_ascii j)
 put_ascii {around} {before} {t} {i} {j} s p e a =
@@ -105,15 +109,26 @@ blank_front {i} {j} P b p q r s here = subst P (sym b.parts) (go b.gap b.spaces 
     go (Block a ∷ gap) x y = absurd (false≢true x)
 
 -- a token after blanks
-pub put_by : {around : Around} {before : Option Token} {t : Token} {i j : Characters} (s : Characters)
-    → ((gap : List Blank) (x : Characters) → are_blanks gap x ≡ is_gap around gap x) → s ++ j ≡ spelling t j → Blanked i (s ++ j) → is_token around before t j → Put around before t i j
-put_by {around} {before} {t} {i} {j} s g e b token = record {
-  gap = b.gap;
-  spaces = b.spaces;
-  fits = subst (λ x. IsTrue (is_gap around b.gap x)) e (subst (λ x. IsTrue x) (g b.gap (s ++ j)) b.blanks);
-  token = token;
-  parts = b.parts ∙ ap (λ x. gap_spelling b.gap x) e;
-}
+pub stand_by : {around : Around} {before : Option Token} {t : Token} {ts : List Token} {i j : Characters} → ((gap : List Blank) (x : Characters) → are_blanks gap x ≡ is_gap around gap x)
+    → Blanked i (spelling t j) → is_token around before t j → Stand (after around t) (Some t) ts j → Stand around before (t ∷ ts) i
+stand_by {around} {before} {t} {ts} {i} {j} g b token s =
+    next (record { gap = b.gap; spaces = b.spaces; fits = subst (λ x. IsTrue x) (g b.gap (spelling t j)) b.blanks; token = token; parts = b.parts }) s
+
+-- a token between tags, where no blanks stand
+pub stand_here : {around : Around} {before : Option Token} {t : Token} {ts : List Token} {i j : Characters} → i ≡ spelling t j → is_token (Children ∷ around) before t j
+    → Stand (after (Children ∷ around) t) (Some t) ts j → Stand (Children ∷ around) before (t ∷ ts) i
+stand_here e token s = next (record { gap = []; spaces = refl; fits = refl; token = token; parts = e }) s
+
+put_here_by : (gap : List Blank) (i x : Characters) → IsTrue (length gap == 0) → i ≡ gap_spelling gap x → i ≡ x
+put_here_by [] i x h e = e
+put_here_by (b ∷ gap) i x h e = absurd (false≢true (sym (eqb-suc-zero (length gap)) ∙ h))
+
+pub put_here : {around : Around} {before : Option Token} {t : Token} {i j : Characters} → Put (Children ∷ around) before t i j → i ≡ spelling t j
+put_here {around} {before} {t} {i} {j} p = put_here_by p.gap i (spelling t j) p.fits p.parts
+
+-- the blanks before a token, and the token
+pub put_blanked : {around : Around} {before : Option Token} {t : Token} {i j : Characters} → Put around before t i j → Blanked i (spelling t j)
+put_blanked {around} {before} {t} {i} {j} p = record { gap = p.gap; spaces = p.spaces; blanks = gap_blanks around p.gap (spelling t j) p.fits; parts = p.parts }
 
 -- ---- signs
 
@@ -242,9 +257,15 @@ word_ends kind (c ∷ cs) = go (continues kind c) refl (word_ends kind cs)
     go true e h = h
     go false e h = e
 
-pub word_here_good : (kind : Kind) (i : Characters) → Good (λ w j. WordRead kind i w j) (word_here kind i)
+-- a word that stands at once
+pub record WordHere (kind : Kind) (i w j : Characters) : Type 0 where
+  pub parts : i ≡ w ++ j
+  pub all : every (continues kind) w ≡ true
+  pub ends : begins_with (continues kind) j ≡ false
+
+pub word_here_good : (kind : Kind) (i : Characters) → Good (λ w j. WordHere kind i w j) (word_here kind i)
 word_here_good kind i = good (record {
-  parts = subst (λ t. Blanked i t) (word_parts kind i) (none i);
+  parts = word_parts kind i;
   all = word_all kind i;
   ends = word_ends kind i;
 })

@@ -1,6 +1,8 @@
 use Rattle.qk_parse.proofs.parse_first.Goals as goal
 use Rattle.qk_parse.proofs.Steps as steps
 use Rattle.qk_parse.proofs.Standing as standing
+use Rattle.qk_parse.proofs.Trees as trees
+use Rattle.qk_parse.proofs.Names as names
 
 pub returns-in-Ok : goal.returns-in-Ok
 returns-in-Ok c = ?
