@@ -1,4 +1,5 @@
 pub mod Names
+pub mod Pieces
 pub mod Standing
 pub mod Steps
 pub mod Trees

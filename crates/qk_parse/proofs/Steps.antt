@@ -28,6 +28,10 @@ pub good_then : {A B : Type 0} {R : A → Characters → Type 0} {S : B → Char
 good_then (good {x = x} {j = j} r) k = k x j r
 good_then bad k = bad
 
+pub if_good : {A : Type 0} {R : A → Characters → Type 0} (b : Bool) (p q : Reader A) (j : Characters) → (b ≡ true → Good R (p j)) → (b ≡ false → Good R (q j)) → Good R ((if b then p else q) j)
+if_good true p q j yes' no' = yes' refl
+if_good false p q j yes' no' = no' refl
+
 -- what stands after a reading
 pub record Reached {A : Type 0} (o : Outcome A) (x : A) (around : Around) (before : Option Token) (ts : List Token) : Type 0 where
   pub rest : Characters
@@ -38,6 +42,14 @@ pub record Reached {A : Type 0} (o : Outcome A) (x : A) (around : Around) (befor
 pub reach_then : {A B : Type 0} {o : Outcome A} {x : A} {y : B} {around around' : Around} {before before' : Option Token} {ts us : List Token} (f : A → Reader B)
     → Reached o x around before ts → ((j : Characters) → IsTrue (is_ascii j) → Stand around before ts j → Reached (f x j) y around' before' us) → Reached (and_then o f) y around' before' us
 reach_then f r k = let s = k r.rest r.ascii r.stand in record { rest = s.rest; is = ap (λ o. and_then o f) r.is ∙ s.is; ascii = s.ascii; stand = s.stand }
+
+pub if_reach : {A : Type 0} {x : A} {around : Around} {before : Option Token} {ts : List Token} (b : Bool) (p q : Reader A) (j : Characters) → b ≡ true → Reached (p j) x around before ts
+    → Reached ((if b then p else q) j) x around before ts
+if_reach b p q j e r = record { rest = r.rest; is = ap (λ b. (if b then p else q) j) e ∙ r.is; ascii = r.ascii; stand = r.stand }
+
+pub unless_reach : {A : Type 0} {x : A} {around : Around} {before : Option Token} {ts : List Token} (b : Bool) (p q : Reader A) (j : Characters) → b ≡ false → Reached (q j) x around before ts
+    → Reached ((if b then p else q) j) x around before ts
+unless_reach b p q j e r = record { rest = r.rest; is = ap (λ b. (if b then p else q) j) e ∙ r.is; ascii = r.ascii; stand = r.stand }
 
 -- ---- blanks
 

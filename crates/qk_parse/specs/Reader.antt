@@ -155,26 +155,27 @@ click_attribute it = do
   expect (codes "}")
   pure (record { key = codes "onClick$"; value = arrow 1 (b.Value (e.Step up target)) })
 
+abbrev pub attribute_named : Option Signal → Characters → Reader (Option Field)
+attribute_named it name =
+    if same name (codes "id") then (id_attribute >>= (λ a. pure (Some a))) else (if same name (codes "onClick$") then (click_attribute it >>= (λ a. pure (Some a))) else refuse)
+
 unfoldable pub attribute : Option Signal → Reader (Option Field)
 attribute it = do
   closed ← look (codes "/>")
   opened ← look (codes ">")
-  if closed || opened then pure None else (do
-    name ← word Tag
-    if same name (codes "id") then (id_attribute >>= (λ a. pure (Some a))) else
-      (if same name (codes "onClick$") then (click_attribute it >>= (λ a. pure (Some a))) else refuse))
+  if closed || opened then pure None else (word Tag >>= attribute_named it)
 
 -- a second attribute has another name than the first; a third has none that is left
-abbrev pub attributes_after : Option Signal → Option Field → Reader (List Field)
-attributes_after it None = pure []
-attributes_after it (Some first) = attribute it >>= second
-  where
-    second : Option Field → Reader (List Field)
-    second None = pure (first ∷ [])
-    second (Some other) = if same other.key first.key then refuse else pure (first ∷ other ∷ [])
+abbrev pub after_second : Field → Option Field → Reader (List Field)
+after_second first None = pure (first ∷ [])
+after_second first (Some other) = if same other.key first.key then refuse else pure (first ∷ other ∷ [])
+
+abbrev pub after_first : Option Signal → Option Field → Reader (List Field)
+after_first it None = pure []
+after_first it (Some first) = attribute it >>= after_second first
 
 unfoldable pub attributes : Option Signal → Reader (List Field)
-attributes it = attribute it >>= attributes_after it
+attributes it = attribute it >>= after_first it
 
 -- what stands between the tags, up to the `</`
 unfoldable pub children : Option Signal → Reader (List Expr)

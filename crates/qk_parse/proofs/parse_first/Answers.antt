@@ -3,6 +3,7 @@ use Rattle.qk_parse.proofs.Steps as steps
 use Rattle.qk_parse.proofs.Standing as standing
 use Rattle.qk_parse.proofs.Trees as trees
 use Rattle.qk_parse.proofs.Names as names
+use Rattle.qk_parse.proofs.Pieces as pieces
 
 pub returns-in-Ok : goal.returns-in-Ok
 returns-in-Ok c = ?
