@@ -1,5 +1,6 @@
 pub mod Names
 pub mod Pieces
+pub mod Sound
 pub mod Standing
 pub mod Steps
 pub mod Trees

@@ -275,19 +275,18 @@ pub record WordHere (kind : Kind) (i w j : Characters) : Type 0 where
   pub all : every (continues kind) w ≡ true
   pub ends : begins_with (continues kind) j ≡ false
 
-pub word_here_good : (kind : Kind) (i : Characters) → Good (λ w j. WordHere kind i w j) (word_here kind i)
-word_here_good kind i = good (record {
-  parts = word_parts kind i;
-  all = word_all kind i;
-  ends = word_ends kind i;
-})
+pub word_here_read : (kind : Kind) (i : Characters) → WordHere kind i (word_of kind i) (after_word kind i)
+word_here_read kind i = record { parts = word_parts kind i; all = word_all kind i; ends = word_ends kind i }
 
-pub word_good : (kind : Kind) (i : Characters) → Good (λ w j. WordRead kind i w j) (word kind i)
-word_good kind i = good (record {
+pub word_read : (kind : Kind) (i : Characters) → WordRead kind i (word_of kind (after_blanks i)) (after_word kind (after_blanks i))
+word_read kind i = record {
   parts = subst (λ t. Blanked i t) (word_parts kind (after_blanks i)) (blanked i);
   all = word_all kind (after_blanks i);
   ends = word_ends kind (after_blanks i);
-})
+}
+
+pub word_good : (kind : Kind) (i : Characters) → Good (λ w j. WordRead kind i w j) (word kind i)
+word_good kind i = good (word_read kind i)
 
 abbrev pub if_so : {A : Type 0} → A → Bool → Reader A
 if_so x b = if b then pure x else refuse

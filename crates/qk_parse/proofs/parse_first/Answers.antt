@@ -4,6 +4,7 @@ use Rattle.qk_parse.proofs.Standing as standing
 use Rattle.qk_parse.proofs.Trees as trees
 use Rattle.qk_parse.proofs.Names as names
 use Rattle.qk_parse.proofs.Pieces as pieces
+use Rattle.qk_parse.proofs.Sound as sound
 
 pub returns-in-Ok : goal.returns-in-Ok
 returns-in-Ok c = ?
