@@ -14,19 +14,19 @@ use Rattle.qk_ast.specs.declared.Jsx.{Jsx, roll-Jsx}
 use Rattle.qk_ast.specs.declared.Tag.TheVariants as t
 use Rattle.qk_ast.specs.declared.Field.{Field}
 use Rattle.qk_ast.specs.Characters.{Characters, same, is_one_of, begins_with, every, is_small_letter, number_after, has}
-use Rattle.qk_ast.specs.Tokens.{Token, Name, Reserved, Int, Text, Attribute, Punct, Begin, Piece, Around, Braces, In_tag, In_end, Children, reserved_words, is_int, is_code_sign, is_sign, child_signs, is_attribute_name}
+use Rattle.qk_ast.specs.Tokens.{Token, Name, Reserved, Int, Text, Attribute, Punct, Begin, Piece, Around, Braces, In_tag, In_end, Children, reserved_words, is_int, is_word, ends_word, is_code_sign, is_sign, child_signs, is_attribute_name}
 use Rattle.qk_ast.specs.Grammar.{Names, Last_name, Last_comma, Next_name}
 use Rattle.qk_ast.specs.Rules.{is_distinct}
 use Rattle.qk_ast.specs.Tree.{names_tree}
 use Rattle.qk_ast.specs.Spelling.{names_tokens, bump_sign, attributes_tokens, element_tokens, module_tokens}
 use Rattle.qk_ast.specs.First.{First_text, First_attribute, Id, On_click, Shape, Selfclosing, Empty, Shown, Fits, module_of, attributes_of, element_of, names_of, qwik_names, are_qwik_names, is_short_word, attribute_fits, attributes_fit, attribute_name, state_fits, first_tags}
-use Rattle.qk_ast.proofs.FrontToken.{left, right, same_is}
+use Rattle.qk_ast.proofs.FrontToken.{left, right, same_is, among}
 use Rattle.qk_parse.specs.declared.first.Signal.{Signal}
 use Rattle.qk_parse.specs.declared.source.Kind.TheVariants.{Code, Tag}
 use Rattle.qk_parse.specs.Input.{Outcome, Reader, and_then, ◌>>=◌, ◌>>◌, continues, word_of, after_word, pure, refuse, word, expect, expect_here, keyword, sees, finish, after_blanks, is_empty}
 use Rattle.qk_parse.specs.Reader.{bytes, arrow, name, is_new, more, names_from, names, import_line, small_number, begins_well, number_by, number, signal_name, declaration, state, value, id_attribute, bump, click_attribute, attribute_named, attribute, after_second, after_first, attributes, children, tag, element, may_stand, opening, closing, component, module_with, first}
 use Rattle.qk_parse.proofs.Standing.{Stand, ended}
-use Rattle.qk_parse.proofs.Steps.{Good, good, bad, good_then, if_good, Blanked, blanked, stand_by, stand_here, expect_good, expect_here_good, eat_good, EatRead, eat_here_good, EatHere, WordRead, word_good, word_read, word_here_read, keyword_good}
+use Rattle.qk_parse.proofs.Steps.{Good, good, bad, good_then, if_good, Blanked, blanked, stand_by, stand_here, expect_good, expect_here_good, eat_good, EatRead, eat_here_good, EatHere, WordRead, word_good, word_read, word_here_read, keyword_good, code_ends}
 use Rattle.qk_parse.proofs.Names.{fresh, fresh_distinct, names_bytes, Small, small_read, int_read, every_maps}
 use Rattle.qk_parse.proofs.Trees.{shown, field_of, children_of, jsx_of, signal_of, tree_of, short_small, by_attributes}
 use Rattle.qk_parse.proofs.Pieces.{Here, In, name_of, is_there, NameFits, name_token, value_tokens, one_attribute, first_attribute, state_tokens, inside, open_shape, initial_small, equals, opens, closes, tag_rest, tag_token}
@@ -344,3 +344,211 @@ element_good it fits i =
               (stand_by (λ gap x. refl) h7.parts (tag_token w j7 h2.0 h7.ends)
               (stand_by (λ gap x. refl) h8 refl (st (Some (Punct (codes ">")))))))))));
         })))))
+
+-- ---- the signal
+
+record NumberRead (i : Characters) (n : ℕ) (j : Characters) : Type 0 where
+  digits : Characters
+  word : WordRead Code i digits j
+  int : IsTrue (is_int digits)
+  value : number_after 10 0 digits ≡ n
+  small : IsTrue (nat_le (number_after 10 0 digits) 1000000)
+
+number_good : (i : Characters) → Good (λ n j. NumberRead i n j) (number i)
+unfolding number
+number_good i = if_good (begins_well w) _ _ j (λ e. by (small_number 0 w) refl e) (λ e. bad)
+  where
+    w : Characters
+    w = word_of Code (after_blanks i)
+
+    j : Characters
+    j = after_word Code (after_blanks i)
+
+    by : (o : Option ℕ) → small_number 0 (word_of Code (after_blanks i)) ≡ o → begins_well (word_of Code (after_blanks i)) ≡ true → Good (λ n j. NumberRead i n j) (number_by o (after_word Code (after_blanks i)))
+    by None e well = bad
+    by (Some k) e well =
+        let r = small_read (word_of Code (after_blanks i)) 0 k refl e in
+        let small : nat_le (number_after 10 0 (word_of Code (after_blanks i))) 1000000 ≡ true = subst (λ n. nat_le n 1000000 ≡ true) (sym r.value) r.bound in
+        good (record {
+          digits = word_of Code (after_blanks i);
+          word = word_read Code i;
+          int = int_read (word_of Code (after_blanks i)) well r.digits small;
+          value = r.value;
+          small = small;
+        })
+
+name_good : (i : Characters) → Good (λ w j. NameFits w × WordRead Code i w j) (signal_name i)
+unfolding signal_name
+name_good i = if_good _ _ _ (after_word Code (after_blanks i)) (λ e. good (e, word_read Code i)) (λ e. bad)
+
+record DeclarationRead (i : Characters) (x : Signal) (j : Characters) : Type 0 where
+  named : NameFits x.name
+  digits : Characters
+  value : number_after 10 0 digits ≡ x.initial
+  small : IsTrue (nat_le (number_after 10 0 digits) 1000000)
+  stands : (before : Option Token) (ts : List Token) → Stand Here (Some (Punct (codes ";"))) ts j
+      → Stand Here before (Name x.name ∷ Punct (codes "=") ∷ Name (codes "useSignal") ∷ Punct (codes "(") ∷ Int digits ∷ Punct (codes ")") ∷ Punct (codes ";") ∷ ts) i
+
+declaration_good : (i : Characters) → Good (λ x j. DeclarationRead i x j) (declaration i)
+unfolding declaration
+declaration_good i =
+    good_then (name_good i) (λ w j1 h1.
+    good_then (expect_good (codes "=") j1) (λ u2 j2 h2.
+    good_then (keyword_good Code (codes "useSignal") j2) (λ u3 j3 h3.
+    good_then (expect_good (codes "(") j3) (λ u4 j4 h4.
+    good_then (number_good j4) (λ n j5 h5.
+    good_then (expect_good (codes ")") j5) (λ u6 j6 h6.
+    good_then (expect_good (codes ";") j6) (λ u7 j7 h7.
+    good (record {
+      named = h1.0;
+      digits = h5.digits;
+      value = h5.value;
+      small = h5.small;
+      stands = λ before ts st.
+          stand_by (λ gap x. refl) h1.1.parts (name_token w j1 h1.0 h1.1.ends)
+          (stand_by (λ gap x. refl) h2 (refl, equals (Some (Name w)) (codes "useSignal" ++ j3) h3.parts refl)
+          (stand_by (λ gap x. refl) h3.parts (refl, refl, code_ends j3 h3.ends)
+          (stand_by (λ gap x. refl) h4 (refl, refl)
+          (stand_by (λ gap x. refl) h5.word.parts (h5.int, code_ends j5 h5.word.ends)
+          (stand_by (λ gap x. refl) h6 (refl, refl)
+          (stand_by (λ gap x. refl) h7 (refl, refl) st))))));
+    }))))))))
+
+pub record StateRead (it : Option Signal) (i j : Characters) : Type 0 where
+  pub named : NameFits (name_of it)
+  pub initial : Option Characters
+  pub is : signal_of initial (name_of it) ≡ it
+  pub small : IsTrue (initial_small initial)
+  pub stands : (before : Option Token) (ts : List Token) → Stand Here (Some (Reserved (codes "return"))) ts j → Stand Here before (state_tokens initial (name_of it) (Reserved (codes "return") ∷ ts)) i
+
+state_good : (i : Characters) → Good (λ it j. StateRead it i j) (state i)
+unfolding state
+state_good i =
+    if_good (same w (codes "return")) _ _ j
+    (λ e. good (record {
+      named = refl;
+      initial = None;
+      is = refl;
+      small = refl;
+      stands = λ before ts st. let h = subst (λ t. WordRead Code i t j) (same_is w (codes "return") e) (word_read Code i) in stand_by (λ gap x. refl) h.parts (refl, code_ends j h.ends) st;
+    }))
+    (λ n. if_good (same w (codes "const")) _ _ j
+    (λ e.
+    good_then (declaration_good j) (λ it k r.
+    good_then (keyword_good Code (codes "return") k) (λ u m q.
+    good (record {
+      named = r.named;
+      initial = Some r.digits;
+      is = ap (λ n. Some (record { name = it.name; initial = n })) r.value;
+      small = r.small;
+      stands = λ before ts st. let h = subst (λ t. WordRead Code i t j) (same_is w (codes "const") e) (word_read Code i) in
+          stand_by (λ gap x. refl) h.parts (refl, code_ends j h.ends) (r.stands _ _ (stand_by (λ gap x. refl) q.parts (refl, code_ends m q.ends) st));
+    }))))
+    (λ m. bad))
+  where
+    w : Characters
+    w = word_of Code (after_blanks i)
+
+    j : Characters
+    j = after_word Code (after_blanks i)
+
+-- ---- the import
+
+record NameRead (found : List (List ℕ)) (i : Characters) (x : List ℕ) (j : Characters) : Type 0 where
+  word : Characters
+  is : x ≡ bytes word
+  qwik : IsTrue (is_one_of word qwik_names)
+  new : IsTrue (not (is_one_of word found))
+  read : WordRead Code i word j
+
+import_name_good : (found : List (List ℕ)) (i : Characters) → Good (λ x j. NameRead found i x j) (name found i)
+unfolding name
+import_name_good found i = if_good (is_new (word_of Code (after_blanks i)) found) _ _ (after_word Code (after_blanks i)) (λ e. good (record {
+  word = word_of Code (after_blanks i);
+  is = refl;
+  qwik = left (is_one_of (word_of Code (after_blanks i)) qwik_names) _ e;
+  new = right (is_one_of (word_of Code (after_blanks i)) qwik_names) _ e;
+  read = word_read Code i;
+})) (λ e. bad)
+
+-- a comma, or the brace after maybe a comma
+record MoreRead (i : Characters) (goes_on : Bool) (j : Characters) : Type 0 where
+  comma : Bool
+  middle : Characters
+  first : EatRead comma (codes ",") i middle
+  second : EatRead (not goes_on) (codes "}") middle j
+  either : IsTrue (not goes_on || comma)
+
+more_good : (i : Characters) → Good (λ b j. MoreRead i b j) (more i)
+unfolding more
+more_good i =
+    good_then (eat_good (codes ",") i) (λ comma j h.
+    good_then (eat_good (codes "}") j) (λ ended k q. by comma j h ended k q))
+  where
+    by : (comma : Bool) (j : Characters) → EatRead comma (codes ",") i j → (ended : Bool) (k : Characters) → EatRead ended (codes "}") j k
+        → Good (λ b j. MoreRead i b j) ((if ended then pure false else (if comma then pure true else refuse)) k)
+    by comma j h true k q = good (record { comma = comma; middle = j; first = h; second = q; either = refl })
+    by true j h false k q = good (record { comma = true; middle = j; first = h; second = q; either = refl })
+    by false j h false k q = bad
+
+pub record NamesRead (found : List (List ℕ)) (i : Characters) (xs : List (List ℕ)) (j : Characters) : Type 0 where
+  pub imported : Names
+  pub qwik : IsTrue (are_qwik_names (names_of imported))
+  pub new : IsTrue (fresh found imported)
+  pub is : xs ≡ found ++ names_tree imported
+  pub stands : (before : Option Token) (ts : List Token) → Stand [] (Some (Punct (codes "}"))) ts j → Stand Here before (names_tokens imported (Punct (codes "}") ∷ ts)) i
+
+qwik_token : (w j : Characters) → IsTrue (is_one_of w qwik_names) → begins_with (continues Code) j ≡ false → IsTrue (is_word w) × IsTrue (not (is_one_of w reserved_words)) × IsTrue (ends_word j)
+qwik_token w j h e =
+    let end = code_ends j e in
+    among (λ w. IsTrue (is_word w) × IsTrue (not (is_one_of w reserved_words)) × IsTrue (ends_word j)) w qwik_names h
+    ((refl, refl, end), ((refl, refl, end), ((refl, refl, end), ((refl, refl, end), ((refl, refl, end), ((refl, refl, end), ((refl, refl, end), ((refl, refl, end), ((refl, refl, end), ((refl, refl, end), ((refl, refl, end), tt)))))))))))
+
+last_names : (found : List (List ℕ)) (i x j k : Characters) (comma : Bool) (middle : Characters) → NameRead found i x j → EatRead comma (codes ",") j middle → EatRead true (codes "}") middle k
+    → NamesRead found i (found ++ x ∷ []) k
+last_names found i x j k true middle r h q = record {
+  imported = Last_comma r.word;
+  qwik = both (is_one_of r.word qwik_names) true r.qwik refl;
+  new = r.new;
+  is = ap (λ x. found ++ x ∷ []) r.is;
+  stands = λ before ts st. stand_by (λ gap x. refl) r.read.parts (qwik_token r.word j r.qwik r.read.ends) (stand_by (λ gap x. refl) h (refl, refl) (stand_by (λ gap x. refl) q (refl, refl) st));
+}
+last_names found i x j k false middle r h q = record {
+  imported = Last_name r.word;
+  qwik = both (is_one_of r.word qwik_names) true r.qwik refl;
+  new = r.new;
+  is = ap (λ x. found ++ x ∷ []) r.is;
+  stands = λ before ts st. stand_by (λ gap x. refl) r.read.parts (qwik_token r.word j r.qwik r.read.ends) (stand_by (λ gap x. refl) (subst (λ t. Blanked t (codes "}" ++ k)) (sym h) q) (refl, refl) st);
+}
+
+next_names : (found : List (List ℕ)) (i x j k : Characters) (xs : List (List ℕ)) (m middle : Characters) → NameRead found i x j → Blanked j (codes "," ++ middle) → middle ≡ k → NamesRead (found ++ x ∷ []) k xs m
+    → NamesRead found i xs m
+next_names found i x j k xs m middle r h q n = record {
+  imported = Next_name r.word n.imported;
+  qwik = both (is_one_of r.word qwik_names) _ r.qwik n.qwik;
+  new = both (not (is_one_of r.word found)) _ r.new (subst (λ x. IsTrue (fresh (found ++ x ∷ []) n.imported)) r.is n.new);
+  is = n.is ∙ (append_assoc found (x ∷ []) (names_tree n.imported) ∙ ap (λ x. found ++ (x ∷ names_tree n.imported)) r.is);
+  stands = λ before ts st. stand_by (λ gap x. refl) r.read.parts (qwik_token r.word j r.qwik r.read.ends)
+      (stand_by (λ gap x. refl) h (refl, refl) (subst (λ t. Stand Here (Some (Punct (codes ","))) (names_tokens n.imported (Punct (codes "}") ∷ ts)) t) (sym q) (n.stands _ ts st)));
+}
+
+comma_there : (comma : Bool) (j middle : Characters) → IsTrue comma → EatRead comma (codes ",") j middle → Blanked j (codes "," ++ middle)
+comma_there true j middle e h = h
+comma_there false j middle e h = absurd (false≢true e)
+
+good_map : {A : Type 0} {R S : A → Characters → Type 0} {o : Outcome A} → Good R o → ((x : A) (j : Characters) → R x j → S x j) → Good S o
+good_map (good {x = x} {j = j} r) k = good (k x j r)
+good_map bad k = bad
+
+names_from_good : (n : ℕ) (found : List (List ℕ)) (i : Characters) → Good (λ xs j. NamesRead found i xs j) (names_from n found i)
+unfolding names_from
+names_from_good zero found i = bad
+names_from_good (suc n) found i =
+    good_then (import_name_good found i) (λ x j r.
+    good_then (more_good j) (λ goes_on k q.
+    by x j r goes_on k q (names_from_good n (found ++ x ∷ []) k)))
+  where
+    by : (x : List ℕ) (j : Characters) → NameRead found i x j → (goes_on : Bool) (k : Characters) → MoreRead j goes_on k → Good (λ xs j. NamesRead (found ++ x ∷ []) k xs j) (names_from n (found ++ x ∷ []) k)
+        → Good (λ xs j. NamesRead found i xs j) ((if goes_on then names_from n (found ++ x ∷ []) else pure (found ++ x ∷ [])) k)
+    by x j r false k q rest = good (last_names found i x j k q.comma q.middle r q.first q.second)
+    by x j r true k q rest = good_map rest (λ xs m s. next_names found i x j k xs m q.middle r (comma_there q.comma j q.middle q.either q.first) q.second s)
