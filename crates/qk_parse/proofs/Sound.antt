@@ -1,5 +1,5 @@
 -- What the reader gives is read from a text of the first form.
-use Rattle.std.specs.Prelude.{◌≡◌, refl, ℕ, zero, suc, Bool, true, false, not, ◌&&◌, ◌||◌, if◌then◌else◌, ◌==◌, List, [], ◌∷◌, ◌++◌, length, map, Option, Some, None, codes, nat_le, IsTrue}
+use Rattle.std.specs.Prelude.{◌≡◌, Ok, Err, refl, ℕ, zero, suc, Bool, true, false, not, ◌&&◌, ◌||◌, if◌then◌else◌, ◌==◌, List, [], ◌∷◌, ◌++◌, length, map, Option, Some, None, codes, nat_le, IsTrue}
 use mathlib.Core.Path.{sym, ◌∙◌, ap, subst}
 use Rattle.std.proofs.lemmas.Bool.{false≢true}
 use Rattle.std.proofs.lemmas.Bool.Decides.{nat_tests}
@@ -14,15 +14,16 @@ use Rattle.qk_ast.specs.declared.Jsx.{Jsx, roll-Jsx}
 use Rattle.qk_ast.specs.declared.Tag.TheVariants as t
 use Rattle.qk_ast.specs.declared.Field.{Field}
 use Rattle.qk_ast.specs.Characters.{Characters, same, is_one_of, begins_with, every, is_small_letter, number_after, has}
-use Rattle.qk_ast.specs.Tokens.{Token, Name, Reserved, Int, Text, Attribute, Punct, Begin, Piece, Around, Braces, In_tag, In_end, Children, reserved_words, is_int, is_word, ends_word, is_code_sign, is_sign, child_signs, is_attribute_name}
-use Rattle.qk_ast.specs.Grammar.{Names, Last_name, Last_comma, Next_name}
+use Rattle.qk_ast.specs.Tokens.{Token, Name, Reserved, Int, Text, Attribute, Punct, Begin, Piece, Around, Braces, In_tag, In_end, Children, reserved_words, is_int, is_word, ends_word, gap_spelling, are_blanks, is_code_sign, is_sign, child_signs, is_attribute_name}
+use Rattle.qk_ast.specs.Grammar.{Element, Statement, Statements, Step, Expression, Names, Last_name, Last_comma, Next_name}
 use Rattle.qk_ast.specs.Rules.{is_distinct}
 use Rattle.qk_ast.specs.Tree.{names_tree}
-use Rattle.qk_ast.specs.Spelling.{names_tokens, bump_sign, attributes_tokens, element_tokens, module_tokens}
-use Rattle.qk_ast.specs.First.{First_text, First_attribute, Id, On_click, Shape, Selfclosing, Empty, Shown, Fits, module_of, attributes_of, element_of, names_of, qwik_names, are_qwik_names, is_short_word, attribute_fits, attributes_fit, attribute_name, state_fits, first_tags}
+use Rattle.qk_ast.specs.Spelling.{statements_tokens, names_tokens, bump_sign, attributes_tokens, element_tokens, module_tokens}
+use Rattle.qk_ast.specs.First.{First_text, First_attribute, Id, On_click, Shape, Selfclosing, Empty, Shown, Fits, module_of, attributes_of, element_of, block_of, names_of, qwik_names, are_qwik_names, is_short_word, attribute_fits, attributes_fit, attribute_name, state_fits, first_tags}
 use Rattle.qk_ast.proofs.FrontToken.{left, right, same_is, among}
 use Rattle.qk_parse.specs.declared.first.Signal.{Signal}
 use Rattle.qk_parse.specs.declared.source.Kind.TheVariants.{Code, Tag}
+use Rattle.qk_parse.specs.declared.fault.Fault.TheVariants.{Refused}
 use Rattle.qk_parse.specs.Input.{Outcome, Reader, and_then, ◌>>=◌, ◌>>◌, continues, word_of, after_word, pure, refuse, word, expect, expect_here, keyword, sees, finish, after_blanks, is_empty}
 use Rattle.qk_parse.specs.Reader.{bytes, arrow, name, is_new, more, names_from, names, import_line, small_number, begins_well, number_by, number, signal_name, declaration, state, value, id_attribute, bump, click_attribute, attribute_named, attribute, after_second, after_first, attributes, children, tag, element, may_stand, opening, closing, component, module_with, first}
 use Rattle.qk_parse.proofs.Standing.{Stand, ended}
@@ -552,3 +553,170 @@ names_from_good (suc n) found i =
         → Good (λ xs j. NamesRead found i xs j) ((if goes_on then names_from n (found ++ x ∷ []) else pure (found ++ x ∷ [])) k)
     by x j r false k q rest = good (last_names found i x j k q.comma q.middle r q.first q.second)
     by x j r true k q rest = good_map rest (λ xs m s. next_names found i x j k xs m q.middle r (comma_there q.comma j q.middle q.either q.first) q.second s)
+
+abbrev import_tokens_of : Names → List Token → List Token
+import_tokens_of imported ts = Reserved (codes "import") ∷ Punct (codes "{") ∷ names_tokens imported (Punct (codes "}") ∷ Name (codes "from") ∷ Text 34 (map Piece.Plain (codes "@builder.io/qwik")) ∷ Punct (codes ";") ∷ ts)
+
+pub record ImportRead (i : Characters) (x : Import) (j : Characters) : Type 0 where
+  pub imported : Names
+  pub qwik : IsTrue (are_qwik_names (names_of imported))
+  pub distinct : IsTrue (is_distinct (names_of imported))
+  pub component : IsTrue (is_one_of (codes "component$") (names_of imported))
+  pub is : x ≡ record { names = names_tree imported; from = codes "@builder.io/qwik" }
+  pub stands : (ts : List Token) → Stand [] (Some (Punct (codes ";"))) ts j → Stand [] None (import_tokens_of imported ts) i
+
+names_good : (i : Characters) → Good (λ xs j. NamesRead [] i xs j) (names i)
+unfolding names
+names_good i = names_from_good (length i) [] i
+
+import_good : (i : Characters) → Good (λ x j. ImportRead i x j) (import_line i)
+unfolding import_line
+import_good i =
+    good_then (keyword_good Code (codes "import") i) (λ u1 j1 h1.
+    good_then (expect_good (codes "{") j1) (λ u2 j2 h2.
+    good_then (names_good j2) (λ found j3 h3.
+    good_then (keyword_good Code (codes "from") j3) (λ u4 j4 h4.
+    good_then (expect_good (codes "\"@builder.io/qwik\"") j4) (λ u5 j5 h5.
+    good_then (expect_good (codes ";") j5) (λ u6 j6 h6.
+    if_good (is_one_of (codes "component$") found) _ _ j6 (λ e.
+    good (record {
+      imported = h3.imported;
+      qwik = h3.qwik;
+      distinct = sym (fresh_distinct h3.imported h3.qwik) ∙ h3.new;
+      component = subst (λ xs. IsTrue (is_one_of (codes "component$") xs)) (h3.is ∙ names_bytes h3.imported h3.qwik) e;
+      is = ap (λ xs. record { names = xs; from = codes "@builder.io/qwik" }) h3.is;
+      stands = λ ts st.
+          stand_by (λ gap x. refl) h1.parts (refl, code_ends j1 h1.ends)
+          (stand_by (λ gap x. refl) h2 (refl, refl)
+          (h3.stands (Some (Punct (codes "{"))) _
+          (stand_by (λ gap x. refl) h4.parts (refl, refl, code_ends j4 h4.ends)
+          (stand_by (λ gap x. refl) h5 (refl, refl)
+          (stand_by (λ gap x. refl) h6 (refl, refl) st)))));
+    })) (λ e. bad)))))))
+
+-- ---- the module
+
+record OpeningRead (i j : Characters) : Type 0 where
+  stands : (ts : List Token) → Stand Here (Some (Punct (codes "{"))) ts j → Stand [] (Some (Punct (codes ";"))) (Reserved (codes "export") ∷ Reserved (codes "const") ∷ Name (codes "App") ∷ Punct (codes "=")
+      ∷ Name (codes "component$") ∷ Punct (codes "(") ∷ Punct (codes "(") ∷ Punct (codes ")") ∷ Punct (codes "=>") ∷ Punct (codes "{") ∷ ts) i
+
+opening_good : (i : Characters) → Good (λ u j. OpeningRead i j) (opening i)
+unfolding opening
+opening_good i =
+    good_then (keyword_good Code (codes "export") i) (λ u1 j1 h1.
+    good_then (keyword_good Code (codes "const") j1) (λ u2 j2 h2.
+    good_then (keyword_good Code (codes "App") j2) (λ u3 j3 h3.
+    good_then (expect_good (codes "=") j3) (λ u4 j4 h4.
+    good_then (keyword_good Code (codes "component$") j4) (λ u5 j5 h5.
+    good_then (expect_good (codes "(") j5) (λ u6 j6 h6.
+    good_then (expect_good (codes "(") j6) (λ u7 j7 h7.
+    good_then (expect_good (codes ")") j7) (λ u8 j8 h8.
+    good_then (expect_good (codes "=>") j8) (λ u9 j9 h9.
+    good_map (expect_good (codes "{") j9) (λ u10 j10 h10. record {
+      stands = λ ts st.
+          stand_by (λ gap x. refl) h1.parts (refl, code_ends j1 h1.ends)
+          (stand_by (λ gap x. refl) h2.parts (refl, code_ends j2 h2.ends)
+          (stand_by (λ gap x. refl) h3.parts (refl, refl, code_ends j3 h3.ends)
+          (stand_by (λ gap x. refl) h4 (refl, equals (Some (Name (codes "App"))) (codes "component$" ++ j5) h5.parts refl)
+          (stand_by (λ gap x. refl) h5.parts (refl, refl, code_ends j5 h5.ends)
+          (stand_by (λ gap x. refl) h6 (refl, refl)
+          (stand_by (λ gap x. refl) h7 (refl, refl)
+          (stand_by (λ gap x. refl) h8 (refl, refl)
+          (stand_by (λ gap x. refl) h9 (refl, refl)
+          (stand_by (λ gap x. refl) h10 (refl, refl) st)))))))));
+    }))))))))))
+
+blanks_end : (i t : Characters) → Blanked i t → t ≡ [] → (last : Option Token) → Stand [] last [] i
+blanks_end i t b e last = ended (record { gap = b.gap; spaces = b.spaces; fits = subst (λ t. IsTrue (are_blanks b.gap t)) e b.blanks; parts = b.parts ∙ ap (λ t. gap_spelling b.gap t) e })
+
+empty_is : (t : Characters) → is_empty t ≡ true → t ≡ []
+empty_is [] h = refl
+empty_is (c ∷ t) h = absurd (false≢true h)
+
+finish_good : (i : Characters) → Good (λ u j. (j ≡ []) × ((last : Option Token) → Stand [] last [] i)) (finish i)
+unfolding finish
+finish_good i = by (is_empty (after_blanks i)) refl
+  where
+    nil : Unit {0}
+    nil = tt
+
+    by : (b : Bool) → is_empty (after_blanks i) ≡ b → Good (λ u j. (j ≡ []) × ((last : Option Token) → Stand [] last [] i)) (if b then Ok (nil, []) else Err Refused)
+    by true e = good (refl, blanks_end i (after_blanks i) (blanked i) (empty_is (after_blanks i) e))
+    by false e = bad
+
+record ClosingRead (i j : Characters) : Type 0 where
+  done : j ≡ []
+  stands : (last : Option Token) → Stand Here last (Punct (codes ";") ∷ Punct (codes "}") ∷ Punct (codes ")") ∷ Punct (codes ";") ∷ []) i
+
+closing_good : (i : Characters) → Good (λ u j. ClosingRead i j) (closing i)
+unfolding closing
+closing_good i =
+    good_then (expect_good (codes ";") i) (λ u1 j1 h1.
+    good_then (expect_good (codes "}") j1) (λ u2 j2 h2.
+    good_then (expect_good (codes ")") j2) (λ u3 j3 h3.
+    good_then (expect_good (codes ";") j3) (λ u4 j4 h4.
+    good_map (finish_good j4) (λ u5 j5 h5. record {
+      done = h5.0;
+      stands = λ last.
+          stand_by (λ gap x. refl) h1 (refl, refl)
+          (stand_by (λ gap x. refl) h2 (refl, refl)
+          (stand_by (λ gap x. refl) h3 (refl, refl)
+          (stand_by (λ gap x. refl) h4 (refl, refl) (h5.1 _))));
+    })))))
+
+-- a text of the first form with its parts, and the module that they mean
+pub record FirstRead (i : Characters) (m : Module) (j : Characters) : Type 0 where
+  pub text : First_text
+  pub fits : Fits text
+  pub is : m ≡ tree_of text
+  pub stands : Stand [] None (module_tokens (module_of text)) i
+  pub done : j ≡ []
+
+state_tests : (it : Option Signal) (initial : Option Characters) (imported : Names) (all : List First_attribute) (shape : Shape) → signal_of initial (name_of it) ≡ it
+    → IsTrue (initial_small initial) → IsTrue (may_stand it (names_of imported)) → IsTrue (is_there it || not (is_one_of (codes "onClick$") (map attribute_name all))) → IsTrue (shape_uses shape it)
+    → IsTrue (state_fits initial (names_of imported) all shape)
+state_tests it (Some digits) imported all shape e small stand uses shows = both (nat_le (number_after 10 0 digits) 1000000) _ small (subst (λ it. IsTrue (may_stand it (names_of imported))) (sym e) stand)
+state_tests it None imported all Shown e small stand uses shows = absurd (false≢true (subst (λ it. IsTrue (is_there it)) (sym e) shows))
+state_tests it None imported all Selfclosing e small stand uses shows = subst (λ it. IsTrue (is_there it || not (is_one_of (codes "onClick$") (map attribute_name all)))) (sym e) uses
+state_tests it None imported all Empty e small stand uses shows = subst (λ it. IsTrue (is_there it || not (is_one_of (codes "onClick$") (map attribute_name all)))) (sym e) uses
+
+abbrev whole_tokens : Names → Option Characters → Characters → Element → List Token
+whole_tokens imported initial name element = import_tokens_of imported (Reserved (codes "export") ∷ Reserved (codes "const") ∷ Name (codes "App") ∷ Punct (codes "=")
+    ∷ Name (codes "component$") ∷ Punct (codes "(") ∷ Punct (codes "(") ∷ Punct (codes ")") ∷ Punct (codes "=>") ∷ Punct (codes "{")
+    ∷ state_tokens initial name (Reserved (codes "return") ∷ element_tokens element (Punct (codes ";") ∷ Punct (codes "}") ∷ Punct (codes ")") ∷ Punct (codes ";") ∷ [])))
+
+block_tokens : (initial : Option Characters) (name : Characters) (element : Element) (ts : List Token)
+    → statements_tokens (block_of initial name (Statements.Then (Statement.Return_step (Step.Plain_step (Expression.Markup element))) Statements.No_statement)) ts
+    ≡ state_tokens initial name (Reserved (codes "return") ∷ element_tokens element (Punct (codes ";") ∷ ts))
+block_tokens None name element ts = refl
+block_tokens (Some digits) name element ts = refl
+
+pub whole : (f : First_text) → module_tokens (module_of f) ≡ whole_tokens f.imported f.initial f.name (element_of f.shape f.name f.tag (attributes_of f.name f.attributes))
+whole f = ap (λ ts. import_tokens_of f.imported (Reserved (codes "export") ∷ Reserved (codes "const") ∷ Name (codes "App") ∷ Punct (codes "=")
+    ∷ Name (codes "component$") ∷ Punct (codes "(") ∷ Punct (codes "(") ∷ Punct (codes ")") ∷ Punct (codes "=>") ∷ Punct (codes "{") ∷ ts))
+    (block_tokens f.initial f.name (element_of f.shape f.name f.tag (attributes_of f.name f.attributes)) _)
+
+pub first_good : (i : Characters) → Good (λ m j. FirstRead i m j) (first i)
+unfolding first
+first_good i =
+    good_then (import_good i) (λ import' j1 h1.
+    good_then (opening_good j1) (λ u2 j2 h2.
+    good_then (state_good j2) (λ it j3 h3.
+    good_then (element_good it h3.named j3) (λ jsx j4 h4.
+    good_then (closing_good j4) (λ u5 j5 h5.
+    if_good (may_stand it import'.names) _ _ j5 (λ e.
+    let f : First_text = record { imported = h1.imported; name = name_of it; initial = h3.initial; tag = h4.tagged; attributes = h4.all; shape = h4.shape } in
+    good (record {
+      text = f;
+      fits = record {
+        qwik = both _ _ (both _ _ h1.qwik h1.distinct) h1.component;
+        named = h3.named;
+        tagged = h4.tag_fits;
+        attributed = both _ _ h4.fits h4.distinct;
+        state = state_tests it h3.initial h1.imported h4.all h4.shape h3.is h3.small (subst (λ xs. IsTrue (may_stand it xs)) (ap (λ x. x.names) h1.is ∙ names_bytes h1.imported h1.qwik) e) h4.uses h4.shows;
+      };
+      is = ap (λ x. module_with x (component it jsx)) h1.is ∙ (ap (λ x. module_with (record { names = names_tree h1.imported; from = codes "@builder.io/qwik" }) (component it x)) h4.is
+          ∙ ap (λ s. module_with (record { names = names_tree h1.imported; from = codes "@builder.io/qwik" }) (component s (jsx_of (name_of it) h4.tagged h4.all h4.shape))) (sym h3.is));
+      stands = subst (λ ts. Stand [] None ts i) (sym (whole f)) (h1.stands _ (h2.stands _ (h3.stands _ _ (h4.stands _ h5.stands))));
+      done = h5.done;
+    })) (λ e. bad))))))
