@@ -1,5 +1,7 @@
+pub mod Complete
 pub mod Names
 pub mod Pieces
+pub mod Plain
 pub mod Sound
 pub mod Standing
 pub mod Steps

@@ -7,13 +7,14 @@ use native.Mathlib.Omega.{arith}
 use Rattle.qk_ast.specs.Characters.{Characters, is_one_of, begins_with, every, is_small_letter, number_after, is_front}
 use Rattle.qk_ast.specs.Tokens.{Token, Name, Reserved, Int, Attribute, Punct, Around, Braces, In_tag, Children, reserved_words, is_word, is_code_sign, is_sign, begin_signs, child_signs, is_attribute_name, is_attribute_rest, ends_word}
 use Rattle.qk_ast.specs.Spelling.{bump_sign, attributes_tokens}
-use Rattle.qk_ast.specs.First.{First_attribute, Id, On_click, Shape, Selfclosing, Empty, Shown, attributes_of, first_tags, is_short_word, attribute_name}
+use Rattle.qk_ast.specs.First.{First_attribute, Id, On_click, Shape, Selfclosing, Empty, Shown, attributes_of, first_tags, qwik_names, is_short_word, attribute_name}
 use Rattle.qk_ast.proofs.FrontToken.{left, right, among}
 use Rattle.qk_parse.specs.declared.first.Signal.{Signal}
 use Rattle.qk_parse.specs.declared.source.Kind.TheVariants.{Code, Tag}
 use Rattle.qk_parse.specs.Input.{continues}
-use Rattle.qk_parse.proofs.Steps.{Blanked, blank_front, WordRead, code_ends}
-use Rattle.qk_parse.proofs.Names.{short_word}
+use Rattle.qk_parse.proofs.Steps.{is_solid, Blanked, blank_front, WordRead, code_ends}
+use Rattle.qk_parse.proofs.Names.{short_word, every_maps}
+use Rattle.qk_parse.proofs.Trees.{short_small}
 
 -- inside the component's braces, and inside a tag there
 abbrev pub Here : Around
@@ -107,3 +108,50 @@ tag_rest (c ∷ j) h = or_parts _ _ h
 
 pub tag_token : (tag j : Characters) → IsTrue (is_one_of tag first_tags) → begins_with (continues Tag) j ≡ false → IsTrue (is_attribute_name tag j)
 tag_token tag j h e = let r = tag_rest j e in among (λ w. IsTrue (is_attribute_name w j)) tag first_tags h (r, (r, (r, tt)))
+
+and_parts : (a b : Bool) → (not a && not b) ≡ true → (a || b) ≡ false
+and_parts true b h = absurd (false≢true h)
+and_parts false true h = absurd (false≢true h)
+and_parts false false h = refl
+
+pub rest_tag : (j : Characters) → IsTrue (is_attribute_rest [] j) → begins_with (continues Tag) j ≡ false
+rest_tag [] h = refl
+rest_tag (c ∷ j) h = and_parts _ _ h
+
+pub tag_ends : (tag j : Characters) → IsTrue (is_one_of tag first_tags) → IsTrue (is_attribute_name tag j) → begins_with (continues Tag) j ≡ false
+tag_ends tag j h = among (λ w. IsTrue (is_attribute_name w j) → begins_with (continues Tag) j ≡ false) tag first_tags h (rest_tag j, (rest_tag j, (rest_tag j, tt)))
+
+pub tag_solid : (tag j : Characters) → IsTrue (is_one_of tag first_tags) → begins_with is_solid (tag ++ j) ≡ true
+tag_solid tag j h = among (λ w. begins_with is_solid (w ++ j) ≡ true) tag first_tags h (refl, (refl, (refl, tt)))
+
+pub tag_continues : (tag : Characters) → IsTrue (is_one_of tag first_tags) → every (continues Tag) tag ≡ true
+tag_continues tag h = among (λ w. every (continues Tag) w ≡ true) tag first_tags h (refl, (refl, (refl, tt)))
+
+pub qwik_solid : (a j : Characters) → IsTrue (is_one_of a qwik_names) → begins_with is_solid (a ++ j) ≡ true
+qwik_solid a j h = among (λ w. begins_with is_solid (w ++ j) ≡ true) a qwik_names h (refl, (refl, (refl, (refl, (refl, (refl, (refl, (refl, (refl, (refl, (refl, tt)))))))))))
+
+pub qwik_continues : (a : Characters) → IsTrue (is_one_of a qwik_names) → every (continues Code) a ≡ true
+qwik_continues a h = among (λ w. every (continues Code) w ≡ true) a qwik_names h (refl, (refl, (refl, (refl, (refl, (refl, (refl, (refl, (refl, (refl, (refl, tt)))))))))))
+
+-- no such name begins with a sign
+pub qwik_no_brace : (a j : Characters) → IsTrue (is_one_of a qwik_names) → is_front (codes "}") (a ++ j) ≡ false
+qwik_no_brace a j h = among (λ w. is_front (codes "}") (w ++ j) ≡ false) a qwik_names h (refl, (refl, (refl, (refl, (refl, (refl, (refl, (refl, (refl, (refl, (refl, tt)))))))))))
+
+small_code : (c : ℕ) → is_small_letter c ≡ true → continues Code c ≡ true
+small_code c h = grind (arith, nat_tests)
+
+small_tag : (c : ℕ) → is_small_letter c ≡ true → continues Tag c ≡ true
+small_tag c h = grind (arith, nat_tests)
+
+small_solid : (c : ℕ) → is_small_letter c ≡ true → is_solid c ≡ true
+small_solid c h = grind (arith, nat_tests)
+
+pub short_code : (w : Characters) → IsTrue (is_short_word w) → every (continues Code) w ≡ true
+short_code w h = every_maps is_small_letter (continues Code) small_code w (short_small w h)
+
+pub short_tag : (w : Characters) → IsTrue (is_short_word w) → every (continues Tag) w ≡ true
+short_tag w h = every_maps is_small_letter (continues Tag) small_tag w (short_small w h)
+
+pub short_solid : (w j : Characters) → IsTrue (is_short_word w) → begins_with is_solid (w ++ j) ≡ true
+short_solid [] j h = absurd (false≢true h)
+short_solid (c ∷ w) j h = small_solid c (left (is_small_letter c) _ (short_small (c ∷ w) h))

@@ -32,6 +32,14 @@ pub if_good : {A : Type 0} {R : A → Characters → Type 0} (b : Bool) (p q : R
 if_good true p q j yes' no' = yes' refl
 if_good false p q j yes' no' = no' refl
 
+abbrev pub Said : {A : Type 0} → (A → Characters → Type 0) → Outcome A → Type 0
+Said R (Ok p) = R p.0 p.1
+Said R (Err e) = Unit {0}
+
+pub said : {A : Type 0} {R : A → Characters → Type 0} {o : Outcome A} → Good R o → Said R o
+said (good r) = r
+said bad = tt
+
 -- what stands after a reading
 pub record Reached {A : Type 0} (o : Outcome A) (x : A) (around : Around) (before : Option Token) (ts : List Token) : Type 0 where
   pub rest : Characters
@@ -60,7 +68,7 @@ pub record Blanked (i j : Characters) : Type 0 where
   pub blanks : IsTrue (are_blanks gap j)
   pub parts : i ≡ gap_spelling gap j
 
-both : (a b : Bool) → IsTrue a → IsTrue b → IsTrue (a && b)
+pub both : (a b : Bool) → IsTrue a → IsTrue b → IsTrue (a && b)
 both true b h k = k
 both false b h k = absurd (false≢true h)
 
@@ -91,7 +99,7 @@ unfolding after_blanks
 solid_stays [] h = refl
 solid_stays (c ∷ cs) h = if_false _ _ (is_not (is_blank c) h)
 
-skipped : (gap : List Blank) (t : Characters) → IsTrue (is_only_space gap) → IsTrue (are_blanks gap t) → after_blanks (gap_spelling gap t) ≡ after_blanks t
+pub skipped : (gap : List Blank) (t : Characters) → IsTrue (is_only_space gap) → IsTrue (are_blanks gap t) → after_blanks (gap_spelling gap t) ≡ after_blanks t
 unfolding after_blanks
 skipped [] t s b = refl
 skipped (Space c ∷ gap) t s b = if_true _ _ (left (is_blank c) _ b) ∙ skipped gap t s (right (is_blank c) _ b)
@@ -108,6 +116,9 @@ put_after s p e solid = put_solid p (ap (λ t. begins_with is_solid t) e ∙ sol
 pub put_ascii : {around : Around} {before : Option Token} {t : Token} {i j : Characters} (s : Characters) → Put around before t i j → spelling t j ≡ s ++ j → IsTrue (is_ascii i) → IsTrue (is_ascii j)
 put_ascii {around} {before} {t} {i} {j} s p e a =
     every_last (λ c. nat_lt c 128) s j (subst (λ k. IsTrue (is_ascii k)) e (gap_last (λ c. nat_lt c 128) p.gap (spelling t j) p.spaces (subst (λ k. IsTrue (is_ascii k)) p.parts a)))
+
+pub put_all_ascii : {around : Around} {before : Option Token} {t : Token} {i j : Characters} → Put around before t i j → IsTrue (is_ascii i) → IsTrue (is_ascii (spelling t j))
+put_all_ascii {around} {before} {t} {i} {j} p a = gap_last (λ c. nat_lt c 128) p.gap (spelling t j) p.spaces (subst (λ k. IsTrue (is_ascii k)) p.parts a)
 
 -- a text that begins with a blank or as that text does
 pub blank_front : {i j : Characters} (P : Characters → Type 0) → Blanked i j → ((cs : Characters) → P (32 ∷ cs)) → ((cs : Characters) → P (9 ∷ cs)) → ((cs : Characters) → P (10 ∷ cs))
@@ -144,7 +155,7 @@ put_blanked {around} {before} {t} {i} {j} p = record { gap = p.gap; spaces = p.s
 
 -- ---- signs
 
-abbrev done : Unit {0}
+abbrev pub done : Unit {0}
 done = tt
 
 front_parts : (s t : Characters) → is_front s t ≡ true → t ≡ s ++ drop (length s) t
@@ -155,7 +166,7 @@ front_parts (c ∷ cs) (d ∷ ds) h = ap (λ x. x ∷ ds) (sym (eqb_is c d (left
     eqb_is : (c d : ℕ) → (c == d) ≡ true → c ≡ d
     eqb_is c d h = grind (arith, nat_tests)
 
-front_there : (s j : Characters) → is_front s (s ++ j) ≡ true
+pub front_there : (s j : Characters) → is_front s (s ++ j) ≡ true
 front_there [] j = refl
 front_there (c ∷ cs) j = both (c == c) _ (eq-eqb c c refl) (front_there cs j)
 
@@ -175,7 +186,7 @@ expect_here_good s i = go (is_front s i) refl
     go true h = good (front_parts s i h)
     go false h = bad
 
-past_is : (s j : Characters) → drop (length s) (s ++ j) ≡ j
+pub past_is : (s j : Characters) → drop (length s) (s ++ j) ≡ j
 past_is s j = drop_at s j (length s) refl
 
 pub sees_is : (s i j : Characters) → after_blanks i ≡ s ++ j → sees s i ≡ true
@@ -402,3 +413,29 @@ keyword_reach {i = i} kind w t e solid all ends a st =
       ascii = r.ascii;
       stand = r.stand;
     }
+
+pub reached : {A : Type 0} {around : Around} {before : Option Token} {ts : List Token} (x : A) (j : Characters) → IsTrue (is_ascii j) → Stand around before ts j → Reached (Ok (x, j)) x around before ts
+reached x j a s = record { rest = j; is = refl; ascii = a; stand = s }
+
+pub eat_reach : {around : Around} {before : Option Token} {ts : List Token} {i : Characters} (s : Characters) (t : Token) → ((j : Characters) → spelling t j ≡ s ++ j)
+    → ((j : Characters) → begins_with is_solid (s ++ j) ≡ true) → IsTrue (is_ascii i) → Stand around before (t ∷ ts) i → Reached (eat s i) true (after around t) (Some t) ts
+eat_reach {i = i} s t e solid a st =
+    let f = first_token st in record {
+      rest = f.rest;
+      is = eat_is s i f.rest (put_after s f.put (e f.rest) (solid f.rest));
+      ascii = put_ascii s f.put (e f.rest) a;
+      stand = f.stand;
+    }
+
+-- another token stands there
+pub unseen_at : {around : Around} {before : Option Token} {t : Token} {ts : List Token} {i : Characters} (s : Characters) → ((j : Characters) → begins_with is_solid (spelling t j) ≡ true)
+    → ((j : Characters) → is_front s (spelling t j) ≡ false) → Stand around before (t ∷ ts) i → sees s i ≡ false
+unseen_at {t = t} {i = i} s solid other st = let f = first_token st in unseen s (spelling t f.rest) i (put_solid f.put (solid f.rest)) (other f.rest)
+
+pub seen_at : {around : Around} {before : Option Token} {t : Token} {ts : List Token} {i : Characters} (s : Characters) → ((j : Characters) → spelling t j ≡ s ++ j)
+    → ((j : Characters) → begins_with is_solid (s ++ j) ≡ true) → Stand around before (t ∷ ts) i → sees s i ≡ true
+seen_at {i = i} s e solid st = let f = first_token st in sees_is s i f.rest (put_after s f.put (e f.rest) (solid f.rest))
+
+pub eat_not_reach : {around : Around} {before : Option Token} {t : Token} {ts : List Token} {i : Characters} (s : Characters) → ((j : Characters) → begins_with is_solid (spelling t j) ≡ true)
+    → ((j : Characters) → is_front s (spelling t j) ≡ false) → IsTrue (is_ascii i) → Stand around before (t ∷ ts) i → Reached (eat s i) false around before (t ∷ ts)
+eat_not_reach {i = i} s solid other a st = record { rest = i; is = eat_not s i (unseen_at s solid other st); ascii = a; stand = st }

@@ -5,6 +5,8 @@ use Rattle.qk_parse.proofs.Trees as trees
 use Rattle.qk_parse.proofs.Names as names
 use Rattle.qk_parse.proofs.Pieces as pieces
 use Rattle.qk_parse.proofs.Sound as sound
+use Rattle.qk_parse.proofs.Complete as complete
+use Rattle.qk_parse.proofs.Plain as plain
 
 pub returns-in-Ok : goal.returns-in-Ok
 returns-in-Ok c = ?

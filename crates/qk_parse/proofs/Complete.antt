@@ -1,0 +1,190 @@
+-- The reader reads every text of the first form.
+use Rattle.std.specs.Prelude.{◌≡◌, Ok, Err, refl, ℕ, zero, suc, ◌+◌, ◌≤◌, Bool, true, false, not, ◌&&◌, ◌||◌, if◌then◌else◌, ◌==◌, List, [], ◌∷◌, ◌++◌, length, map, Option, Some, None, codes, nat_le, nat_lt, IsTrue}
+use mathlib.Core.Path.{sym, ◌∙◌, ap, subst}
+use Rattle.std.proofs.lemmas.Bool.{false≢true}
+use Rattle.std.proofs.lemmas.List.{append_assoc, length-append}
+use native.Mathlib.Omega.{arith}
+use Rattle.qk_ast.specs.declared.Module.{Module}
+use Rattle.qk_ast.specs.declared.Import.{Import}
+use Rattle.qk_ast.specs.declared.Expr.{Expr}
+use Rattle.qk_ast.specs.declared.Expr.TheVariants as e
+use Rattle.qk_ast.specs.declared.Body.TheVariants as b
+use Rattle.qk_ast.specs.declared.Jsx.{Jsx, roll-Jsx}
+use Rattle.qk_ast.specs.declared.Tag.TheVariants as t
+use Rattle.qk_ast.specs.declared.Field.{Field}
+use Rattle.qk_ast.specs.Characters.{Characters, same, is_one_of, begins_with, every, is_front, is_digit, is_small_letter, number_after}
+use Rattle.qk_ast.specs.Tokens.{Token, Name, Reserved, Int, Text, Attribute, Punct, Begin, Piece, Around, Braces, In_tag, In_end, Children, Blank, Space, Line, Block, after, spelling, gap_spelling, reserved_words, is_int, is_word, is_token, is_attribute_name}
+use Rattle.qk_ast.specs.Grammar.{Names, Last_name, Last_comma, Next_name}
+use Rattle.qk_ast.specs.Rules.{is_distinct}
+use Rattle.qk_ast.specs.Tree.{names_tree}
+use Rattle.qk_ast.specs.Spelling.{names_tokens, bump_sign, attributes_tokens, element_tokens, module_tokens}
+use Rattle.qk_ast.specs.First.{First_text, First_attribute, Id, On_click, Shape, Selfclosing, Empty, Shown, Fits, is_only_space, module_of, attributes_of, element_of, names_of, qwik_names, are_qwik_names, is_short_word, attribute_fits, attributes_fit, attribute_name, state_fits, first_tags}
+use Rattle.qk_ast.proofs.FrontToken.{left, right}
+use Rattle.qk_ast.proofs.OneToken.{rest_digits}
+use Rattle.qk_parse.specs.declared.first.Signal.{Signal}
+use Rattle.qk_parse.specs.declared.source.Kind.TheVariants.{Code, Tag}
+use Rattle.qk_parse.specs.declared.fault.Fault.TheVariants.{Refused}
+use Rattle.qk_parse.specs.Input.{Outcome, Reader, and_then, ◌>>=◌, ◌>>◌, continues, word_here, pure, refuse, word, expect, expect_here, keyword, sees, eat, eat_here, finish, after_blanks, is_empty}
+use Rattle.qk_parse.specs.Reader.{bytes, arrow, name, is_new, more, names_from, names, import_line, small_number, begins_well, number_by, number, signal_name, declaration, state, value, id_attribute, bump, click_attribute, attribute_named, attribute, after_second, after_first, attributes, children, tag, element, may_stand, opening, closing, component, module_with, first}
+use Rattle.qk_parse.proofs.Standing.{Put, Ends, Stand, First, first_token, last_gap, gap_blanks, is_ascii, every_last}
+use Rattle.qk_parse.proofs.Steps.{both, done, same_refl, Reached, reached, reach_then, if_reach, unless_reach, is_solid, skipped, put_solid, put_all_ascii, put_here, put_blanked, Blanked, blank_front, expect_is, expect_here_is, word_here_is, eat_here_is, eat_here_not, sign_reach, eat_reach, eat_not_reach, unseen_at, seen_at, word_reach, keyword_reach, ends_code}
+use Rattle.qk_parse.proofs.Names.{fresh, fresh_distinct, names_bytes, small_is, int_begins}
+use Rattle.qk_parse.proofs.Trees.{shown, field_of, children_of, jsx_of, signal_of, tree_of, short_small, by_attributes}
+use Rattle.qk_parse.proofs.Pieces.{Here, In, name_of, is_there, NameFits, NameToken, name_short, value_tokens, one_attribute, first_attribute, state_tokens, inside, open_shape, rest_tag, tag_ends, tag_solid, tag_continues, qwik_solid, qwik_continues, qwik_no_brace, short_code, short_tag, short_solid}
+
+-- ---- NAME.value
+
+value_reach : (it : Signal) → NameFits it.name → (around : Around) (before : Option Token) (ts : List Token) (i : Characters) → IsTrue (is_ascii i) → Stand (Braces ∷ around) before (value_tokens it.name ts) i
+    → Reached (value (Some it) i) (shown it.name) (Braces ∷ around) (Some (Name (codes "value"))) ts
+unfolding value
+value_reach it fits around before ts i a s =
+    let short = name_short it.name fits in
+    reach_then _ (keyword_reach Code it.name (Name it.name) (λ j. refl) (λ j. short_solid it.name j short) (short_code it.name short) (λ j a h s. ends_code j a h.2) a s) (λ j a s.
+    reach_then _ (sign_reach (codes ".") (Punct (codes ".")) (λ j. refl) (λ j. refl) a s) (λ j a s.
+    reach_then _ (keyword_reach Code (codes "value") (Name (codes "value")) (λ j. refl) (λ j. refl) refl (λ j a h s. ends_code j a h.2) a s) (λ j a s.
+    reached (shown it.name) j a s)))
+
+-- ---- attributes
+
+run_then : {A B : Type 0} {o : Outcome A} {x : A} {j : Characters} {r : Outcome B} (f : A → Reader B) → o ≡ Ok (x, j) → f x j ≡ r → and_then o f ≡ r
+run_then f e h = ap (λ o. and_then o f) e ∙ h
+
+abbrev id_end : Characters → Reader Field
+id_end id = expect_here (codes "\"") >> (if is_short_word id then pure (record { key = codes "id"; value = e.Text (bytes id) }) else refuse)
+
+-- the text in quotes, as one token
+id_end_reach : (id : Characters) (ts : List Token) (before : Option Token) (i : Characters) → IsTrue (is_short_word id) → IsTrue (is_ascii i) → Stand In before (Attribute 34 id ∷ ts) i
+    → Reached ((expect (codes "\"") >> (word_here Tag >>= id_end)) i) (field_of [] (Id id)) In (Some (Attribute 34 id)) ts
+id_end_reach id ts before i short a s =
+    let f = first_token s in
+    let j : Characters = f.rest in
+    record {
+      rest = j;
+      is = run_then (λ u. word_here Tag >>= id_end) (expect_is (codes "\"") i (id ++ 34 ∷ j) (put_solid f.put refl))
+          (run_then id_end (word_here_is Tag (id ++ 34 ∷ j) id (34 ∷ j) refl (short_tag id short) refl)
+          (run_then (λ u. if is_short_word id then pure (field_of [] (Id id)) else refuse) (expect_here_is (codes "\"") (34 ∷ j) j refl)
+          (ap (λ b. (if b then pure (field_of [] (Id id)) else refuse) j) short)));
+      ascii = every_last (λ c. nat_lt c 128) id (34 ∷ j) (put_all_ascii f.put a);
+      stand = f.stand;
+    }
+
+id_reach : (id : Characters) (ts : List Token) (before : Option Token) (i : Characters) → IsTrue (is_short_word id) → IsTrue (is_ascii i) → Stand In before (Punct (codes "=") ∷ Attribute 34 id ∷ ts) i
+    → Reached (id_attribute i) (field_of [] (Id id)) In (Some (Attribute 34 id)) ts
+unfolding id_attribute
+id_reach id ts before i short a s =
+    reach_then _ (sign_reach (codes "=") (Punct (codes "=")) (λ j. refl) (λ j. refl) a s) (λ j a s. id_end_reach id ts _ j short a s)
+
+abbrev bump_text : Bool → Characters
+bump_text true = codes "++"
+bump_text false = codes "--"
+
+abbrev bump_end : Bool → Reader Bool
+bump_end up = if up then pure true else (expect (codes "--") >> pure false)
+
+bump_reach : (up : Bool) (around : Around) (before : Option Token) (ts : List Token) (i : Characters) → IsTrue (is_ascii i) → Stand (Braces ∷ around) before (bump_sign up ts) i
+    → Reached (bump i) up (Braces ∷ around) (Some (Punct (bump_text up))) ts
+unfolding bump
+bump_reach true around before ts i a s = reach_then bump_end (eat_reach (codes "++") (Punct (codes "++")) (λ j. refl) (λ j. refl) a s) (λ j a s. reached true j a s)
+bump_reach false around before ts i a s =
+    reach_then bump_end (eat_not_reach (codes "++") (λ j. refl) (λ j. refl) a s) (λ j a s.
+    reach_then _ (sign_reach (codes "--") (Punct (codes "--")) (λ j. refl) (λ j. refl) a s) (λ j a s. reached false j a s))
+
+click_reach : (it : Signal) → NameFits it.name → (up : Bool) (ts : List Token) (before : Option Token) (i : Characters) → IsTrue (is_ascii i)
+    → Stand In before (Punct (codes "=") ∷ Punct (codes "{") ∷ Punct (codes "(") ∷ Punct (codes ")") ∷ Punct (codes "=>") ∷ value_tokens it.name (bump_sign up (Punct (codes "}") ∷ ts))) i
+    → Reached (click_attribute (Some it) i) (field_of it.name (On_click up)) In (Some (Punct (codes "}"))) ts
+unfolding click_attribute
+click_reach it fits up ts before i a s =
+    reach_then _ (sign_reach (codes "=") (Punct (codes "=")) (λ j. refl) (λ j. refl) a s) (λ j a s.
+    reach_then _ (sign_reach (codes "{") (Punct (codes "{")) (λ j. refl) (λ j. refl) a s) (λ j a s.
+    reach_then _ (sign_reach (codes "(") (Punct (codes "(")) (λ j. refl) (λ j. refl) a s) (λ j a s.
+    reach_then _ (sign_reach (codes ")") (Punct (codes ")")) (λ j. refl) (λ j. refl) a s) (λ j a s.
+    reach_then _ (sign_reach (codes "=>") (Punct (codes "=>")) (λ j. refl) (λ j. refl) a s) (λ j a s.
+    reach_then _ (value_reach it fits In _ _ j a s) (λ j a s.
+    reach_then _ (bump_reach up In _ _ j a s) (λ j a s.
+    reach_then _ (sign_reach (codes "}") (Punct (codes "}")) (λ j. refl) (λ j. refl) a s) (λ j a s.
+    reached (field_of it.name (On_click up)) j a s))))))))
+
+abbrev last_of : First_attribute → Option Token
+last_of (Id id) = Some (Attribute 34 id)
+last_of (On_click up) = Some (Punct (codes "}"))
+
+-- `=` follows
+no_tag_word : {around : Around} {before : Option Token} {ts : List Token} {i : Characters} → Stand around before (Punct (codes "=") ∷ ts) i → begins_with (continues Tag) i ≡ false
+no_tag_word s = let f = first_token s in blank_front (λ t. begins_with (continues Tag) t ≡ false) (put_blanked f.put) (λ cs. refl) (λ cs. refl) (λ cs. refl) (λ cs. refl) refl
+
+abbrev attribute_end : Option Signal → Bool → Reader (Option Field)
+attribute_end it ended = if ended then pure None else (word Tag >>= attribute_named it)
+
+attribute_reach : (it : Option Signal) → NameFits (name_of it) → (a : First_attribute) (before : Option Token) (ts : List Token) (i : Characters) → IsTrue (attribute_fits a)
+    → IsTrue (is_there it || not (is_one_of (codes "onClick$") (attribute_name a ∷ []))) → IsTrue (is_ascii i) → Stand In before (one_attribute (name_of it) a ts) i
+    → Reached (attribute it i) (Some (field_of (name_of it) a)) In (last_of a) ts
+unfolding attribute
+attribute_reach it fits (Id id) before ts i short uses a s =
+    unless_reach (sees (codes "/>") i || sees (codes ">") i) (pure None) (word Tag >>= attribute_named it) i
+    (ap (λ b. b || sees (codes ">") i) (unseen_at (codes "/>") (λ j. refl) (λ j. refl) s) ∙ unseen_at (codes ">") (λ j. refl) (λ j. refl) s)
+    (reach_then (attribute_named it) (word_reach Tag (codes "id") (Name (codes "id")) (λ j. refl) (λ j. refl) refl (λ j a h s. rest_tag j h) a s) (λ j a s.
+    reach_then (λ x. pure (Some x)) (id_reach id ts _ j short a s) (λ j a s. reached _ j a s)))
+attribute_reach None fits (On_click up) before ts i short uses a s = absurd (false≢true uses)
+attribute_reach (Some it) fits (On_click up) before ts i short uses a s =
+    unless_reach (sees (codes "/>") i || sees (codes ">") i) (pure None) (word Tag >>= attribute_named (Some it)) i
+    (ap (λ b. b || sees (codes ">") i) (unseen_at (codes "/>") (λ j. refl) (λ j. refl) s) ∙ unseen_at (codes ">") (λ j. refl) (λ j. refl) s)
+    (reach_then (attribute_named (Some it)) (word_reach Tag (codes "onClick$") (Name (codes "onClick$")) (λ j. refl) (λ j. refl) refl (λ j a h s. no_tag_word s) a s) (λ j a s.
+    reach_then (λ x. pure (Some x)) (click_reach it fits up ts _ j a s) (λ j a s. reached _ j a s)))
+
+-- what ends the attributes
+abbrev TagEnd : Bool → Token
+TagEnd true = Punct (codes "/>")
+TagEnd false = Punct (codes ">")
+
+none_reach : (it : Option Signal) (closed : Bool) (before : Option Token) (ts : List Token) (i : Characters) → IsTrue (is_ascii i) → Stand In before (TagEnd closed ∷ ts) i
+    → Reached (attribute it i) None In before (TagEnd closed ∷ ts)
+unfolding attribute
+none_reach it true before ts i a s =
+    if_reach (sees (codes "/>") i || sees (codes ">") i) (pure None) (word Tag >>= attribute_named it) i (ap (λ b. b || sees (codes ">") i) (seen_at (codes "/>") (λ j. refl) (λ j. refl) s)) (reached None i a s)
+none_reach it false before ts i a s =
+    if_reach (sees (codes "/>") i || sees (codes ">") i) (pure None) (word Tag >>= attribute_named it) i
+    (ap (λ b. b || sees (codes ">") i) (unseen_at (codes "/>") (λ j. refl) (λ j. refl) s) ∙ seen_at (codes ">") (λ j. refl) (λ j. refl) s) (reached None i a s)
+
+abbrev last_all : Option Token → List First_attribute → Option Token
+last_all before [] = before
+last_all before (a ∷ more) = last_all (last_of a) more
+
+abbrev Uses : Option Signal → List First_attribute → Type 0
+Uses it all = IsTrue (is_there it || not (is_one_of (codes "onClick$") (map attribute_name all)))
+
+uses_one : (there : Bool) (a : First_attribute) (more : List First_attribute) → IsTrue (there || not (is_one_of (codes "onClick$") (map attribute_name (a ∷ more))))
+    → IsTrue (there || not (is_one_of (codes "onClick$") (attribute_name a ∷ [])))
+uses_one true a more h = refl
+uses_one false (Id id) more h = refl
+uses_one false (On_click up) more h = h
+
+uses_more : (there : Bool) (a : First_attribute) (more : List First_attribute) → IsTrue (there || not (is_one_of (codes "onClick$") (map attribute_name (a ∷ more))))
+    → IsTrue (there || not (is_one_of (codes "onClick$") (map attribute_name more)))
+uses_more true a more h = refl
+uses_more false (Id id) more h = h
+uses_more false (On_click up) more h = absurd (false≢true h)
+
+attributes_reach : (it : Option Signal) → NameFits (name_of it) → (closed : Bool) (before : Option Token) (ts : List Token) (all : List First_attribute) → IsTrue (is_distinct (map attribute_name all))
+    → (i : Characters) → IsTrue (attributes_fit all) → Uses it all → IsTrue (is_ascii i) → Stand In before (attributes_tokens (attributes_of (name_of it) all) (TagEnd closed ∷ ts)) i
+    → Reached (attributes it i) (map (field_of (name_of it)) all) In (last_all before all) (TagEnd closed ∷ ts)
+unfolding attributes
+attributes_reach it fits closed before ts = by_attributes (λ all. (i : Characters) → IsTrue (attributes_fit all) → Uses it all → IsTrue (is_ascii i)
+    → Stand In before (attributes_tokens (attributes_of (name_of it) all) (TagEnd closed ∷ ts)) i → Reached (attributes it i) (map (field_of (name_of it)) all) In (last_all before all) (TagEnd closed ∷ ts))
+    (λ i f u a s. reach_then (after_first it) (none_reach it closed before ts i a s) (λ j a s. reached [] j a s))
+    (λ x i f u a s.
+    reach_then (after_first it) (attribute_reach it fits x before (TagEnd closed ∷ ts) i (left (attribute_fits x) true f) u a (subst (λ us. Stand In before us i) (first_attribute (name_of it) x [] (TagEnd closed ∷ ts)) s)) (λ j a s.
+    reach_then (after_second (field_of (name_of it) x)) (none_reach it closed (last_of x) ts j a s) (λ j a s. reached (field_of (name_of it) x ∷ []) j a s)))
+    (λ id up i f u a s.
+    let x : First_attribute = Id id in let y : First_attribute = On_click up in
+    reach_then (after_first it) (attribute_reach it fits x before _ i (left (attribute_fits x) _ f) (uses_one (is_there it) x (y ∷ []) u) a s) (λ j a s.
+    reach_then (after_second (field_of (name_of it) x)) (attribute_reach it fits y _ _ j (left (attribute_fits y) true (right (attribute_fits x) _ f)) (uses_more (is_there it) x (y ∷ []) u) a s) (λ j a s.
+    reached (field_of (name_of it) x ∷ field_of (name_of it) y ∷ []) j a s)))
+    (λ up id i f u a s.
+    let x : First_attribute = On_click up in let y : First_attribute = Id id in
+    reach_then (after_first it) (attribute_reach it fits x before _ i (left (attribute_fits x) _ f) (uses_one (is_there it) x (y ∷ []) u) a s) (λ j a s.
+    reach_then (after_second (field_of (name_of it) x)) (attribute_reach it fits y _ _ j (left (attribute_fits y) true (right (attribute_fits x) _ f)) (uses_none (is_there it) id) a s) (λ j a s.
+    reached (field_of (name_of it) x ∷ field_of (name_of it) y ∷ []) j a s)))
+  where
+    uses_none : (there : Bool) (id : Characters) → IsTrue (there || not (is_one_of (codes "onClick$") (attribute_name (Id id) ∷ [])))
+    uses_none true id = refl
+    uses_none false id = refl
