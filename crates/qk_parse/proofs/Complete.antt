@@ -3,6 +3,7 @@ use Rattle.std.specs.Prelude.{◌≡◌, Ok, Err, refl, ℕ, zero, suc, ◌+◌,
 use mathlib.Core.Path.{sym, ◌∙◌, ap, subst}
 use Rattle.std.proofs.lemmas.Bool.{false≢true}
 use Rattle.std.proofs.lemmas.List.{append_assoc, length-append}
+use Rattle.std.proofs.lemmas.Bool.Decides.{nat_tests}
 use native.Mathlib.Omega.{arith}
 use Rattle.qk_ast.specs.declared.Module.{Module}
 use Rattle.qk_ast.specs.declared.Import.{Import}
@@ -28,9 +29,9 @@ use Rattle.qk_parse.specs.Input.{Outcome, Reader, and_then, ◌>>=◌, ◌>>◌,
 use Rattle.qk_parse.specs.Reader.{bytes, arrow, name, is_new, more, names_from, names, import_line, small_number, begins_well, number_by, number, signal_name, declaration, state, value, id_attribute, bump, click_attribute, attribute_named, attribute, after_second, after_first, attributes, children, tag, element, may_stand, opening, closing, component, module_with, first}
 use Rattle.qk_parse.proofs.Standing.{Put, Ends, Stand, First, first_token, last_gap, gap_blanks, is_ascii, every_last}
 use Rattle.qk_parse.proofs.Steps.{both, done, same_refl, Reached, reached, reach_then, if_reach, unless_reach, is_solid, skipped, put_solid, put_all_ascii, put_here, put_blanked, Blanked, blank_front, expect_is, expect_here_is, word_here_is, eat_here_is, eat_here_not, sign_reach, eat_reach, eat_not_reach, unseen_at, seen_at, word_reach, keyword_reach, ends_code}
-use Rattle.qk_parse.proofs.Names.{fresh, fresh_distinct, names_bytes, small_is, int_begins}
+use Rattle.qk_parse.proofs.Names.{every_maps, fresh, fresh_distinct, names_bytes, small_is, int_begins}
 use Rattle.qk_parse.proofs.Trees.{shown, field_of, children_of, jsx_of, signal_of, tree_of, short_small, by_attributes}
-use Rattle.qk_parse.proofs.Pieces.{Here, In, name_of, is_there, NameFits, NameToken, name_short, value_tokens, one_attribute, first_attribute, state_tokens, inside, open_shape, rest_tag, tag_ends, tag_solid, tag_continues, qwik_solid, qwik_continues, qwik_no_brace, short_code, short_tag, short_solid}
+use Rattle.qk_parse.proofs.Pieces.{Here, In, name_of, is_there, NameFits, NameToken, name_short, value_tokens, one_attribute, first_attribute, state_tokens, inside, open_shape, initial_small, rest_tag, tag_ends, tag_solid, tag_continues, qwik_solid, qwik_continues, qwik_no_brace, short_code, short_tag, short_solid}
 
 -- ---- NAME.value
 
@@ -152,17 +153,17 @@ last_all before (a ∷ more) = last_all (last_of a) more
 abbrev Uses : Option Signal → List First_attribute → Type 0
 Uses it all = IsTrue (is_there it || not (is_one_of (codes "onClick$") (map attribute_name all)))
 
-uses_one : (there : Bool) (a : First_attribute) (more : List First_attribute) → IsTrue (there || not (is_one_of (codes "onClick$") (map attribute_name (a ∷ more))))
+uses_one : (there : Bool) (a : First_attribute) (others : List First_attribute) → IsTrue (there || not (is_one_of (codes "onClick$") (map attribute_name (a ∷ others))))
     → IsTrue (there || not (is_one_of (codes "onClick$") (attribute_name a ∷ [])))
-uses_one true a more h = refl
-uses_one false (Id id) more h = refl
-uses_one false (On_click up) more h = h
+uses_one true a others h = refl
+uses_one false (Id id) others h = refl
+uses_one false (On_click up) others h = h
 
-uses_more : (there : Bool) (a : First_attribute) (more : List First_attribute) → IsTrue (there || not (is_one_of (codes "onClick$") (map attribute_name (a ∷ more))))
-    → IsTrue (there || not (is_one_of (codes "onClick$") (map attribute_name more)))
-uses_more true a more h = refl
-uses_more false (Id id) more h = h
-uses_more false (On_click up) more h = absurd (false≢true h)
+uses_more : (there : Bool) (a : First_attribute) (others : List First_attribute) → IsTrue (there || not (is_one_of (codes "onClick$") (map attribute_name (a ∷ others))))
+    → IsTrue (there || not (is_one_of (codes "onClick$") (map attribute_name others)))
+uses_more true a others h = refl
+uses_more false (Id id) others h = h
+uses_more false (On_click up) others h = absurd (false≢true h)
 
 attributes_reach : (it : Option Signal) → NameFits (name_of it) → (closed : Bool) (before : Option Token) (ts : List Token) (all : List First_attribute) → IsTrue (is_distinct (map attribute_name all))
     → (i : Characters) → IsTrue (attributes_fit all) → Uses it all → IsTrue (is_ascii i) → Stand In before (attributes_tokens (attributes_of (name_of it) all) (TagEnd closed ∷ ts)) i
@@ -188,3 +189,182 @@ attributes_reach it fits closed before ts = by_attributes (λ all. (i : Characte
     uses_none : (there : Bool) (id : Characters) → IsTrue (there || not (is_one_of (codes "onClick$") (attribute_name (Id id) ∷ [])))
     uses_none true id = refl
     uses_none false id = refl
+
+-- ---- the element
+
+abbrev children_end : Option Signal → Bool → Reader (List Expr)
+children_end it shows = if shows then (value it >>= (λ child. expect (codes "}") >> (expect_here (codes "</") >> pure (child ∷ [])))) else (expect_here (codes "</") >> pure [])
+
+-- the sign stands at once
+here_reach : (s : Characters) (around : Around) (before : Option Token) (ts : List Token) (i : Characters) → IsTrue (is_ascii i) → Stand (Children ∷ around) before (Punct s ∷ ts) i
+    → Reached (expect_here s i) done (after (Children ∷ around) (Punct s)) (Some (Punct s)) ts
+here_reach s around before ts i a s' = let f = first_token s' in let parts = put_here f.put in record {
+  rest = f.rest;
+  is = expect_here_is s i f.rest parts;
+  ascii = every_last (λ c. nat_lt c 128) s f.rest (subst (λ t. IsTrue (is_ascii t)) parts a);
+  stand = f.stand;
+}
+
+shown_reach : (around : Around) (before : Option Token) (ts : List Token) (i : Characters) → IsTrue (is_ascii i) → Stand (Children ∷ around) before (Punct (codes "{") ∷ ts) i
+    → Reached (eat_here (codes "{") i) true (Braces ∷ Children ∷ around) (Some (Punct (codes "{"))) ts
+shown_reach around before ts i a s = let f = first_token s in let parts = put_here f.put in record {
+  rest = f.rest;
+  is = eat_here_is (codes "{") i f.rest parts;
+  ascii = every_last (λ c. nat_lt c 128) (codes "{") f.rest (subst (λ t. IsTrue (is_ascii t)) parts a);
+  stand = f.stand;
+}
+
+hidden_reach : (around : Around) (before : Option Token) (ts : List Token) (i : Characters) → IsTrue (is_ascii i) → Stand (Children ∷ around) before (Punct (codes "</") ∷ ts) i
+    → Reached (eat_here (codes "{") i) false (Children ∷ around) before (Punct (codes "</") ∷ ts)
+hidden_reach around before ts i a s = let f = first_token s in record {
+  rest = i;
+  is = eat_here_not (codes "{") i (ap (λ t. is_front (codes "{") t) (put_here f.put));
+  ascii = a;
+  stand = s;
+}
+
+children_reach : (it : Option Signal) → NameFits (name_of it) → (shows : Bool) → IsTrue (not shows || is_there it) → (before : Option Token) (ts : List Token) (i : Characters) → IsTrue (is_ascii i)
+    → Stand (Children ∷ Here) before (inside shows (name_of it) (Punct (codes "</") ∷ ts)) i → Reached (children it i) (children_of (name_of it) (open_shape shows)) (In_end ∷ Here) (Some (Punct (codes "</"))) ts
+unfolding children
+children_reach it fits false u before ts i a s =
+    reach_then (children_end it) (hidden_reach Here before ts i a s) (λ j a s.
+    reach_then _ (here_reach (codes "</") Here before ts j a s) (λ j a s. reached [] j a s))
+children_reach None fits true u before ts i a s = absurd (false≢true u)
+children_reach (Some it) fits true u before ts i a s =
+    reach_then (children_end (Some it)) (shown_reach Here before _ i a s) (λ j a s.
+    reach_then _ (value_reach it fits (Children ∷ Here) _ _ j a s) (λ j a s.
+    reach_then _ (sign_reach (codes "}") (Punct (codes "}")) (λ j. refl) (λ j. refl) a s) (λ j a s.
+    reach_then _ (here_reach (codes "</") Here _ ts j a s) (λ j a s. reached (shown it.name ∷ []) j a s))))
+
+tag_reach : (w : Characters) (before : Option Token) (ts : List Token) (i : Characters) → IsTrue (is_one_of w first_tags) → IsTrue (is_ascii i) → Stand In before (Name w ∷ ts) i
+    → Reached (tag i) w In (Some (Name w)) ts
+unfolding tag
+tag_reach w before ts i h a s =
+    reach_then (λ found. if is_one_of found first_tags then pure found else refuse)
+    (word_reach Tag w (Name w) (λ j. refl) (λ j. tag_solid w j h) (tag_continues w h) (λ j a r s. tag_ends w j h r) a s) (λ j a s.
+    if_reach (is_one_of w first_tags) (pure w) refuse j h (reached w j a s))
+
+abbrev element_end : Option Signal → Characters → List Field → Bool → Reader Jsx
+element_end it w xs closed =
+    if closed then pure (roll-Jsx (record { tag = t.Element (bytes w); attrs = xs; children = [] }))
+    else (expect (codes ">") >> (children it >>= (λ inner. keyword Tag w >> (expect (codes ">") >> pure (roll-Jsx (record { tag = t.Element (bytes w); attrs = xs; children = inner }))))))
+
+-- the last token of an element
+abbrev last_sign : Shape → Option Token
+last_sign Selfclosing = Some (Punct (codes "/>"))
+last_sign Empty = Some (Punct (codes ">"))
+last_sign Shown = Some (Punct (codes ">"))
+
+open_reach : (it : Option Signal) → NameFits (name_of it) → (w : Characters) (all : List First_attribute) (shows : Bool) → IsTrue (is_one_of w first_tags) → IsTrue (is_distinct (map attribute_name all))
+    → IsTrue (attributes_fit all) → Uses it all → IsTrue (not shows || is_there it) → (ts : List Token) (i : Characters) → IsTrue (is_ascii i)
+    → Stand Here (Some (Reserved (codes "return"))) (Begin (codes "<") ∷ Name w
+      ∷ attributes_tokens (attributes_of (name_of it) all) (Punct (codes ">") ∷ inside shows (name_of it) (Punct (codes "</") ∷ Name w ∷ Punct (codes ">") ∷ ts))) i
+    → Reached (element it i) (jsx_of (name_of it) w all (open_shape shows)) Here (Some (Punct (codes ">"))) ts
+unfolding element
+open_reach it fits w all shows h d f u v ts i a s =
+    reach_then _ (sign_reach (codes "<") (Begin (codes "<")) (λ j. refl) (λ j. refl) a s) (λ j a s.
+    reach_then _ (tag_reach w _ _ j h a s) (λ j a s.
+    reach_then _ (attributes_reach it fits false (Some (Name w)) _ all d j f u a s) (λ j a s.
+    reach_then (element_end it w (map (field_of (name_of it)) all)) (eat_not_reach (codes "/>") (λ j. refl) (λ j. refl) a s) (λ j a s.
+    reach_then _ (sign_reach (codes ">") (Punct (codes ">")) (λ j. refl) (λ j. refl) a s) (λ j a s.
+    reach_then _ (children_reach it fits shows v _ _ j a s) (λ j a s.
+    reach_then _ (keyword_reach Tag w (Name w) (λ j. refl) (λ j. tag_solid w j h) (tag_continues w h) (λ j a r s. tag_ends w j h r) a s) (λ j a s.
+    reach_then _ (sign_reach (codes ">") (Punct (codes ">")) (λ j. refl) (λ j. refl) a s) (λ j a s.
+    reached (jsx_of (name_of it) w all (open_shape shows)) j a s))))))))
+
+closed_reach : (it : Option Signal) → NameFits (name_of it) → (w : Characters) (all : List First_attribute) → IsTrue (is_one_of w first_tags) → IsTrue (is_distinct (map attribute_name all))
+    → IsTrue (attributes_fit all) → Uses it all → (ts : List Token) (i : Characters) → IsTrue (is_ascii i)
+    → Stand Here (Some (Reserved (codes "return"))) (Begin (codes "<") ∷ Name w ∷ attributes_tokens (attributes_of (name_of it) all) (Punct (codes "/>") ∷ ts)) i
+    → Reached (element it i) (jsx_of (name_of it) w all Selfclosing) Here (Some (Punct (codes "/>"))) ts
+unfolding element
+closed_reach it fits w all h d f u ts i a s =
+    reach_then _ (sign_reach (codes "<") (Begin (codes "<")) (λ j. refl) (λ j. refl) a s) (λ j a s.
+    reach_then _ (tag_reach w _ _ j h a s) (λ j a s.
+    reach_then _ (attributes_reach it fits true (Some (Name w)) _ all d j f u a s) (λ j a s.
+    reach_then (element_end it w (map (field_of (name_of it)) all)) (eat_reach (codes "/>") (Punct (codes "/>")) (λ j. refl) (λ j. refl) a s) (λ j a s.
+    reached (jsx_of (name_of it) w all Selfclosing) j a s))))
+
+-- an element shows the signal only where there is one
+abbrev ShapeUses : Option Signal → Shape → Type 0
+ShapeUses it Shown = IsTrue (is_there it)
+ShapeUses it Selfclosing = Unit {0}
+ShapeUses it Empty = Unit {0}
+
+element_reach : (it : Option Signal) → NameFits (name_of it) → (w : Characters) (all : List First_attribute) (shape : Shape) → IsTrue (is_one_of w first_tags) → IsTrue (is_distinct (map attribute_name all))
+    → IsTrue (attributes_fit all) → Uses it all → ShapeUses it shape → (ts : List Token) (i : Characters) → IsTrue (is_ascii i)
+    → Stand Here (Some (Reserved (codes "return"))) (element_tokens (element_of shape (name_of it) w (attributes_of (name_of it) all)) ts) i
+    → Reached (element it i) (jsx_of (name_of it) w all shape) Here (last_sign shape) ts
+element_reach it fits w all Selfclosing h d f u v ts i a s = closed_reach it fits w all h d f u ts i a s
+element_reach it fits w all Empty h d f u v ts i a s = open_reach it fits w all false h d f u refl ts i a s
+element_reach it fits w all Shown h d f u v ts i a s = open_reach it fits w all true h d f u v ts i a s
+
+-- ---- the signal
+
+abbrev number_end : Characters → Reader ℕ
+number_end digits = if begins_well digits then number_by (small_number 0 digits) else refuse
+
+digit_code : (c : ℕ) → is_digit c ≡ true → continues Code c ≡ true
+digit_code c h = grind (arith, nat_tests)
+
+digit_solid : (c : ℕ) → is_digit c ≡ true → is_solid c ≡ true
+digit_solid c h = grind (arith, nat_tests)
+
+int_digits : (ds : Characters) → IsTrue (is_int ds) → every is_digit ds ≡ true
+int_digits [] h = absurd (false≢true h)
+int_digits (d ∷ ds) h = rest_digits d ds h
+
+int_solid : (ds j : Characters) → IsTrue (is_int ds) → begins_with is_solid (ds ++ j) ≡ true
+int_solid [] j h = absurd (false≢true h)
+int_solid (d ∷ ds) j h = digit_solid d (left (is_digit d) _ (rest_digits d ds h))
+
+number_reach : (ds : Characters) (before : Option Token) (ts : List Token) (i : Characters) → IsTrue (nat_le (number_after 10 0 ds) 1000000) → IsTrue (is_ascii i) → Stand Here before (Int ds ∷ ts) i
+    → Reached (number i) (number_after 10 0 ds) Here (Some (Int ds)) ts
+unfolding number
+number_reach ds before ts i small a s =
+    let int : IsTrue (is_int ds) = (first_token s).put.token.0 in
+    reach_then number_end (word_reach Code ds (Int ds) (λ j. refl) (λ j. int_solid ds j int) (every_maps is_digit (continues Code) digit_code ds (int_digits ds int)) (λ j a h s. ends_code j a h.1) a s) (λ j a s.
+    if_reach (begins_well ds) (number_by (small_number 0 ds)) refuse j (int_begins ds int) (record {
+      rest = j;
+      is = ap (λ o. number_by o j) (small_is ds 0 (int_digits ds int) small);
+      ascii = a;
+      stand = s;
+    }))
+
+abbrev name_end : Characters → Reader Characters
+name_end w = if is_short_word w && not (is_one_of w reserved_words) && not (is_one_of w (map codes ("console" ∷ "qrl" ∷ []))) then pure w else refuse
+
+signal_name_reach : (w : Characters) (before : Option Token) (ts : List Token) (i : Characters) → NameFits w → IsTrue (is_ascii i) → Stand Here before (Name w ∷ ts) i
+    → Reached (signal_name i) w Here (Some (Name w)) ts
+unfolding signal_name
+signal_name_reach w before ts i fits a s =
+    let short = name_short w fits in
+    reach_then name_end (word_reach Code w (Name w) (λ j. refl) (λ j. short_solid w j short) (short_code w short) (λ j a h s. ends_code j a h.2) a s) (λ j a s.
+    if_reach _ (pure w) refuse j fits (reached w j a s))
+
+declaration_reach : (w ds : Characters) (before : Option Token) (ts : List Token) (i : Characters) → NameFits w → IsTrue (nat_le (number_after 10 0 ds) 1000000) → IsTrue (is_ascii i)
+    → Stand Here before (Name w ∷ Punct (codes "=") ∷ Name (codes "useSignal") ∷ Punct (codes "(") ∷ Int ds ∷ Punct (codes ")") ∷ Punct (codes ";") ∷ ts) i
+    → Reached (declaration i) (record { name = w; initial = number_after 10 0 ds }) Here (Some (Punct (codes ";"))) ts
+unfolding declaration
+declaration_reach w ds before ts i fits small a s =
+    reach_then _ (signal_name_reach w before _ i fits a s) (λ j a s.
+    reach_then _ (sign_reach (codes "=") (Punct (codes "=")) (λ j. refl) (λ j. refl) a s) (λ j a s.
+    reach_then _ (keyword_reach Code (codes "useSignal") (Name (codes "useSignal")) (λ j. refl) (λ j. refl) refl (λ j a h s. ends_code j a h.2) a s) (λ j a s.
+    reach_then _ (sign_reach (codes "(") (Punct (codes "(")) (λ j. refl) (λ j. refl) a s) (λ j a s.
+    reach_then _ (number_reach ds _ _ j small a s) (λ j a s.
+    reach_then _ (sign_reach (codes ")") (Punct (codes ")")) (λ j. refl) (λ j. refl) a s) (λ j a s.
+    reach_then _ (sign_reach (codes ";") (Punct (codes ";")) (λ j. refl) (λ j. refl) a s) (λ j a s.
+    reached (record { name = w; initial = number_after 10 0 ds }) j a s)))))))
+
+abbrev state_end : Characters → Reader (Option Signal)
+state_end found = if same found (codes "return") then pure None else (if same found (codes "const") then (declaration >>= (λ it. keyword Code (codes "return") >> pure (Some it))) else refuse)
+
+state_reach : (initial : Option Characters) (name : Characters) (before : Option Token) (ts : List Token) (i : Characters) → NameFits name → IsTrue (initial_small initial) → IsTrue (is_ascii i)
+    → Stand Here before (state_tokens initial name (Reserved (codes "return") ∷ ts)) i → Reached (state i) (signal_of initial name) Here (Some (Reserved (codes "return"))) ts
+unfolding state
+state_reach None name before ts i fits small a s =
+    reach_then state_end (word_reach Code (codes "return") (Reserved (codes "return")) (λ j. refl) (λ j. refl) refl (λ j a h s. ends_code j a h.1) a s) (λ j a s. reached None j a s)
+state_reach (Some ds) name before ts i fits small a s =
+    reach_then state_end (word_reach Code (codes "const") (Reserved (codes "const")) (λ j. refl) (λ j. refl) refl (λ j a h s. ends_code j a h.1) a s) (λ j a s.
+    reach_then _ (declaration_reach name ds _ _ j fits small a s) (λ j a s.
+    reach_then _ (keyword_reach Code (codes "return") (Reserved (codes "return")) (λ j. refl) (λ j. refl) refl (λ j a h s. ends_code j a h.1) a s) (λ j a s.
+    reached (signal_of (Some ds) name) j a s)))
