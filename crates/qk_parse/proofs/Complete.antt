@@ -15,7 +15,8 @@ use Rattle.qk_ast.specs.declared.Tag.TheVariants as t
 use Rattle.qk_ast.specs.declared.Field.{Field}
 use Rattle.qk_ast.specs.Characters.{Characters, same, is_one_of, begins_with, every, is_front, is_digit, is_small_letter, number_after}
 use Rattle.qk_ast.specs.Tokens.{Token, Name, Reserved, Int, Text, Attribute, Punct, Begin, Piece, Around, Braces, In_tag, In_end, Children, Blank, Space, Line, Block, after, spelling, gap_spelling, reserved_words, is_int, is_word, is_token, is_attribute_name}
-use Rattle.qk_ast.specs.Grammar.{Names, Last_name, Last_comma, Next_name}
+use Rattle.qk_ast.specs.Grammar.{Children as Inside}
+use Rattle.qk_ast.specs.Grammar.{Element, Attributes, Names, Last_name, Last_comma, Next_name}
 use Rattle.qk_ast.specs.Rules.{is_distinct}
 use Rattle.qk_ast.specs.Tree.{names_tree}
 use Rattle.qk_ast.specs.Spelling.{names_tokens, bump_sign, attributes_tokens, element_tokens, module_tokens}
@@ -27,10 +28,11 @@ use Rattle.qk_parse.specs.declared.source.Kind.TheVariants.{Code, Tag}
 use Rattle.qk_parse.specs.declared.fault.Fault.TheVariants.{Refused}
 use Rattle.qk_parse.specs.Input.{Outcome, Reader, and_then, ◌>>=◌, ◌>>◌, continues, word_here, pure, refuse, word, expect, expect_here, keyword, sees, eat, eat_here, finish, after_blanks, is_empty}
 use Rattle.qk_parse.specs.Reader.{bytes, arrow, name, is_new, more, names_from, names, import_line, small_number, begins_well, number_by, number, signal_name, declaration, state, value, id_attribute, bump, click_attribute, attribute_named, attribute, after_second, after_first, attributes, children, tag, element, may_stand, opening, closing, component, module_with, first}
-use Rattle.qk_parse.proofs.Standing.{Put, Ends, Stand, First, first_token, last_gap, gap_blanks, is_ascii, every_last}
+use Rattle.qk_parse.proofs.Standing.{ended, Put, Ends, Stand, First, first_token, last_gap, gap_blanks, is_ascii, every_last}
 use Rattle.qk_parse.proofs.Steps.{both, done, same_refl, Reached, reached, reach_then, if_reach, unless_reach, is_solid, skipped, put_solid, put_all_ascii, put_here, put_blanked, Blanked, blank_front, expect_is, expect_here_is, word_here_is, eat_here_is, eat_here_not, sign_reach, eat_reach, eat_not_reach, unseen_at, seen_at, word_reach, keyword_reach, ends_code}
 use Rattle.qk_parse.proofs.Names.{every_maps, fresh, fresh_distinct, names_bytes, small_is, int_begins}
 use Rattle.qk_parse.proofs.Trees.{shown, field_of, children_of, jsx_of, signal_of, tree_of, short_small, by_attributes}
+use Rattle.qk_parse.proofs.Sound.{import_tokens_of, whole_tokens, whole}
 use Rattle.qk_parse.proofs.Pieces.{Here, In, name_of, is_there, NameFits, NameToken, name_short, value_tokens, one_attribute, first_attribute, state_tokens, inside, open_shape, initial_small, rest_tag, tag_ends, tag_solid, tag_continues, qwik_solid, qwik_continues, qwik_no_brace, short_code, short_tag, short_solid}
 
 -- ---- NAME.value
@@ -112,9 +114,6 @@ last_of (On_click up) = Some (Punct (codes "}"))
 -- `=` follows
 no_tag_word : {around : Around} {before : Option Token} {ts : List Token} {i : Characters} → Stand around before (Punct (codes "=") ∷ ts) i → begins_with (continues Tag) i ≡ false
 no_tag_word s = let f = first_token s in blank_front (λ t. begins_with (continues Tag) t ≡ false) (put_blanked f.put) (λ cs. refl) (λ cs. refl) (λ cs. refl) (λ cs. refl) refl
-
-abbrev attribute_end : Option Signal → Bool → Reader (Option Field)
-attribute_end it ended = if ended then pure None else (word Tag >>= attribute_named it)
 
 attribute_reach : (it : Option Signal) → NameFits (name_of it) → (a : First_attribute) (before : Option Token) (ts : List Token) (i : Characters) → IsTrue (attribute_fits a)
     → IsTrue (is_there it || not (is_one_of (codes "onClick$") (attribute_name a ∷ []))) → IsTrue (is_ascii i) → Stand In before (one_attribute (name_of it) a ts) i
@@ -368,3 +367,241 @@ state_reach (Some ds) name before ts i fits small a s =
     reach_then _ (declaration_reach name ds _ _ j fits small a s) (λ j a s.
     reach_then _ (keyword_reach Code (codes "return") (Reserved (codes "return")) (λ j. refl) (λ j. refl) refl (λ j a h s. ends_code j a h.1) a s) (λ j a s.
     reached (signal_of (Some ds) name) j a s)))
+
+-- ---- the import
+
+abbrev import_name_end : List (List ℕ) → Characters → Reader (List ℕ)
+import_name_end found it = if is_new it found then pure (bytes it) else refuse
+
+import_name_reach : (found : List (List ℕ)) (w : Characters) (before : Option Token) (ts : List Token) (i : Characters) → IsTrue (is_one_of w qwik_names) → IsTrue (not (is_one_of w found)) → IsTrue (is_ascii i)
+    → Stand Here before (Name w ∷ ts) i → Reached (name found i) (bytes w) Here (Some (Name w)) ts
+unfolding name
+import_name_reach found w before ts i q n a s =
+    reach_then (import_name_end found) (word_reach Code w (Name w) (λ j. refl) (λ j. qwik_solid w j q) (qwik_continues w q) (λ j a h s. ends_code j a h.2) a s) (λ j a s.
+    if_reach (is_new w found) (pure (bytes w)) refuse j (both (is_one_of w qwik_names) _ q n) (reached (bytes w) j a s))
+
+abbrev ended_end : Bool → Bool → Reader Bool
+ended_end comma is_last = if is_last then pure false else (if comma then pure true else refuse)
+
+abbrev more_end : Bool → Reader Bool
+more_end comma = eat (codes "}") >>= ended_end comma
+
+-- the closing brace
+brace_reach : (before : Option Token) (ts : List Token) (i : Characters) → IsTrue (is_ascii i) → Stand Here before (Punct (codes "}") ∷ ts) i → Reached (more i) false [] (Some (Punct (codes "}"))) ts
+unfolding more
+brace_reach before ts i a s =
+    reach_then more_end (eat_not_reach (codes ",") (λ j. refl) (λ j. refl) a s) (λ j a s.
+    reach_then (ended_end false) (eat_reach (codes "}") (Punct (codes "}")) (λ j. refl) (λ j. refl) a s) (λ j a s. reached false j a s))
+
+-- a comma, and the closing brace
+comma_brace_reach : (before : Option Token) (ts : List Token) (i : Characters) → IsTrue (is_ascii i) → Stand Here before (Punct (codes ",") ∷ Punct (codes "}") ∷ ts) i
+    → Reached (more i) false [] (Some (Punct (codes "}"))) ts
+unfolding more
+comma_brace_reach before ts i a s =
+    reach_then more_end (eat_reach (codes ",") (Punct (codes ",")) (λ j. refl) (λ j. refl) a s) (λ j a s.
+    reach_then (ended_end true) (eat_reach (codes "}") (Punct (codes "}")) (λ j. refl) (λ j. refl) a s) (λ j a s. reached false j a s))
+
+-- a comma, and another name
+comma_name_reach : (w : Characters) (before : Option Token) (ts : List Token) (i : Characters) → IsTrue (is_one_of w qwik_names) → IsTrue (is_ascii i) → Stand Here before (Punct (codes ",") ∷ Name w ∷ ts) i
+    → Reached (more i) true Here (Some (Punct (codes ","))) (Name w ∷ ts)
+unfolding more
+comma_name_reach w before ts i q a s =
+    reach_then more_end (eat_reach (codes ",") (Punct (codes ",")) (λ j. refl) (λ j. refl) a s) (λ j a s.
+    reach_then (ended_end true) (eat_not_reach (codes "}") (λ j. qwik_solid w j q) (λ j. qwik_no_brace w j q) a s) (λ j a s. reached true j a s))
+
+abbrev count : Names → ℕ
+count (Last_name a) = 1
+count (Last_comma a) = 1
+count (Next_name a others) = suc (count others)
+
+gap_length : (gap : List Blank) (t : Characters) → IsTrue (is_only_space gap) → length t ≤ length (gap_spelling gap t)
+gap_length [] t h = omega arith
+gap_length (Space c ∷ gap) t h = omega (arith, gap_length gap t h)
+gap_length (Line a ∷ gap) t h = absurd (false≢true h)
+gap_length (Block a ∷ gap) t h = absurd (false≢true h)
+
+put_length : {around : Around} {before : Option Token} {t : Token} {i j : Characters} → Put around before t i j → length (spelling t j) ≤ length i
+put_length {around} {before} {t} {i} {j} p = let l = gap_length p.gap (spelling t j) p.spaces in let e = ap length p.parts in omega (arith, l, e)
+
+word_length : (w j : Characters) → IsTrue (is_word w) → suc (length j) ≤ length (w ++ j)
+word_length [] j h = absurd (false≢true h)
+word_length (c ∷ w) j h = let l = length-append w j in omega (arith, l)
+
+name_length : {before : Option Token} {w i j : Characters} → Put Here before (Name w) i j → suc (length j) ≤ length i
+name_length {before} {w} {i} {j} p = let l = put_length p in let k = word_length w j p.token.0 in omega (arith, l, k)
+
+names_length : (names : Names) (before : Option Token) (ts : List Token) (i : Characters) → Stand Here before (names_tokens names ts) i → count names ≤ length i
+names_length (Last_name a) before ts i s = let k = name_length (first_token s).put in omega (arith, k)
+names_length (Last_comma a) before ts i s = let k = name_length (first_token s).put in omega (arith, k)
+names_length (Next_name a others) before ts i s =
+    let f = first_token s in let g = first_token f.stand in
+    let k = name_length f.put in let l = put_length g.put in let m = names_length others _ ts g.rest g.stand in omega (arith, k, l, m)
+
+abbrev turn_end : ℕ → List (List ℕ) → List ℕ → Bool → Reader (List (List ℕ))
+turn_end n found it goes_on = if goes_on then names_from n (found ++ it ∷ []) else pure (found ++ it ∷ [])
+
+name_after_comma : (others : Names) (before : Option Token) (ts : List Token) (i : Characters) → IsTrue (are_qwik_names (names_of others)) → IsTrue (is_ascii i)
+    → Stand Here before (Punct (codes ",") ∷ names_tokens others ts) i → Reached (more i) true Here (Some (Punct (codes ","))) (names_tokens others ts)
+name_after_comma (Last_name a) before ts i q h s = comma_name_reach a before _ i (left (is_one_of a qwik_names) _ q) h s
+name_after_comma (Last_comma a) before ts i q h s = comma_name_reach a before _ i (left (is_one_of a qwik_names) _ q) h s
+name_after_comma (Next_name a others) before ts i q h s = comma_name_reach a before _ i (left (is_one_of a qwik_names) _ q) h s
+
+regroup : (n : ℕ) (i : Characters) (found : List (List ℕ)) {around : Around} {before : Option Token} {ts : List Token} (a : List ℕ) (xs : List (List ℕ))
+    → Reached (names_from n (found ++ a ∷ []) i) ((found ++ a ∷ []) ++ xs) around before ts → Reached (names_from n (found ++ a ∷ []) i) (found ++ (a ∷ xs)) around before ts
+regroup n i found a xs r = record { rest = r.rest; is = r.is ∙ ap (λ x. Ok (x, r.rest)) (append_assoc found (a ∷ []) xs); ascii = r.ascii; stand = r.stand }
+
+names_from_reach : (imported : Names) (n : ℕ) (found : List (List ℕ)) (before : Option Token) (ts : List Token) (i : Characters) → count imported ≤ n → IsTrue (are_qwik_names (names_of imported))
+    → IsTrue (fresh found imported) → IsTrue (is_ascii i) → Stand Here before (names_tokens imported (Punct (codes "}") ∷ ts)) i
+    → Reached (names_from n found i) (found ++ names_tree imported) [] (Some (Punct (codes "}"))) ts
+unfolding names_from
+names_from_reach (Last_name w) zero found before ts i c q f a s = absurd (omega (arith, c))
+names_from_reach (Last_comma w) zero found before ts i c q f a s = absurd (omega (arith, c))
+names_from_reach (Next_name w others) zero found before ts i c q f a s = absurd (omega (arith, c))
+names_from_reach (Last_name w) (suc n) found before ts i c q f a s =
+    reach_then _ (import_name_reach found w before _ i (left (is_one_of w qwik_names) _ q) f a s) (λ j a s.
+    reach_then (turn_end n found (bytes w)) (brace_reach _ ts j a s) (λ j a s. reached (found ++ bytes w ∷ []) j a s))
+names_from_reach (Last_comma w) (suc n) found before ts i c q f a s =
+    reach_then _ (import_name_reach found w before _ i (left (is_one_of w qwik_names) _ q) f a s) (λ j a s.
+    reach_then (turn_end n found (bytes w)) (comma_brace_reach _ ts j a s) (λ j a s. reached (found ++ bytes w ∷ []) j a s))
+names_from_reach (Next_name w others) (suc n) found before ts i c q f a s =
+    reach_then _ (import_name_reach found w before _ i (left (is_one_of w qwik_names) _ q) (left (not (is_one_of w found)) _ f) a s) (λ j a s.
+    reach_then (turn_end n found (bytes w)) (name_after_comma others _ _ j (right (is_one_of w qwik_names) _ q) a s) (λ j a s.
+    regroup n j found (bytes w) (names_tree others) (names_from_reach others n (found ++ bytes w ∷ []) _ ts j (omega (arith, c)) (right (is_one_of w qwik_names) _ q) (right (not (is_one_of w found)) _ f) a s)))
+
+names_reach : (imported : Names) (before : Option Token) (ts : List Token) (i : Characters) → IsTrue (are_qwik_names (names_of imported)) → IsTrue (is_distinct (names_of imported)) → IsTrue (is_ascii i)
+    → Stand Here before (names_tokens imported (Punct (codes "}") ∷ ts)) i → Reached (names i) (names_tree imported) [] (Some (Punct (codes "}"))) ts
+unfolding names
+names_reach imported before ts i q d a s = names_from_reach imported (length i) [] before ts i (names_length imported before _ i s) q (fresh_distinct imported q ∙ d) a s
+
+abbrev pub import_of : Names → Import
+import_of imported = record { names = names_tree imported; from = codes "@builder.io/qwik" }
+
+import_reach : (imported : Names) (ts : List Token) (i : Characters) → IsTrue (are_qwik_names (names_of imported)) → IsTrue (is_distinct (names_of imported)) → IsTrue (is_one_of (codes "component$") (names_of imported))
+    → IsTrue (is_ascii i) → Stand [] None (import_tokens_of imported ts) i → Reached (import_line i) (import_of imported) [] (Some (Punct (codes ";"))) ts
+unfolding import_line
+import_reach imported ts i q d c a s =
+    reach_then _ (keyword_reach Code (codes "import") (Reserved (codes "import")) (λ j. refl) (λ j. refl) refl (λ j a h s. ends_code j a h.1) a s) (λ j a s.
+    reach_then _ (sign_reach (codes "{") (Punct (codes "{")) (λ j. refl) (λ j. refl) a s) (λ j a s.
+    reach_then _ (names_reach imported _ _ j q d a s) (λ j a s.
+    reach_then _ (keyword_reach Code (codes "from") (Name (codes "from")) (λ j. refl) (λ j. refl) refl (λ j a h s. ends_code j a h.2) a s) (λ j a s.
+    reach_then _ (sign_reach (codes "\"@builder.io/qwik\"") (Text 34 (map Piece.Plain (codes "@builder.io/qwik"))) (λ j. refl) (λ j. refl) a s) (λ j a s.
+    reach_then _ (sign_reach (codes ";") (Punct (codes ";")) (λ j. refl) (λ j. refl) a s) (λ j a s.
+    if_reach (is_one_of (codes "component$") (names_tree imported)) (pure (import_of imported)) refuse j (ap (λ xs. is_one_of (codes "component$") xs) (names_bytes imported q) ∙ c)
+    (reached (import_of imported) j a s)))))))
+
+-- ---- the module
+
+opening_reach : (ts : List Token) (i : Characters) → IsTrue (is_ascii i) → Stand [] (Some (Punct (codes ";"))) (Reserved (codes "export") ∷ Reserved (codes "const") ∷ Name (codes "App") ∷ Punct (codes "=")
+    ∷ Name (codes "component$") ∷ Punct (codes "(") ∷ Punct (codes "(") ∷ Punct (codes ")") ∷ Punct (codes "=>") ∷ Punct (codes "{") ∷ ts) i
+    → Reached (opening i) done Here (Some (Punct (codes "{"))) ts
+unfolding opening
+opening_reach ts i a s =
+    reach_then _ (keyword_reach Code (codes "export") (Reserved (codes "export")) (λ j. refl) (λ j. refl) refl (λ j a h s. ends_code j a h.1) a s) (λ j a s.
+    reach_then _ (keyword_reach Code (codes "const") (Reserved (codes "const")) (λ j. refl) (λ j. refl) refl (λ j a h s. ends_code j a h.1) a s) (λ j a s.
+    reach_then _ (keyword_reach Code (codes "App") (Name (codes "App")) (λ j. refl) (λ j. refl) refl (λ j a h s. ends_code j a h.2) a s) (λ j a s.
+    reach_then _ (sign_reach (codes "=") (Punct (codes "=")) (λ j. refl) (λ j. refl) a s) (λ j a s.
+    reach_then _ (keyword_reach Code (codes "component$") (Name (codes "component$")) (λ j. refl) (λ j. refl) refl (λ j a h s. ends_code j a h.2) a s) (λ j a s.
+    reach_then _ (sign_reach (codes "(") (Punct (codes "(")) (λ j. refl) (λ j. refl) a s) (λ j a s.
+    reach_then _ (sign_reach (codes "(") (Punct (codes "(")) (λ j. refl) (λ j. refl) a s) (λ j a s.
+    reach_then _ (sign_reach (codes ")") (Punct (codes ")")) (λ j. refl) (λ j. refl) a s) (λ j a s.
+    reach_then _ (sign_reach (codes "=>") (Punct (codes "=>")) (λ j. refl) (λ j. refl) a s) (λ j a s.
+    sign_reach (codes "{") (Punct (codes "{")) (λ j. refl) (λ j. refl) a s)))))))))
+
+blanks_left : (i : Characters) → Ends [] i → after_blanks i ≡ []
+unfolding after_blanks
+blanks_left i e = ap after_blanks e.parts ∙ skipped e.gap [] e.spaces (gap_blanks [] e.gap [] e.fits)
+
+finish_is : (i : Characters) → Ends [] i → finish i ≡ Ok (done, [])
+unfolding finish
+finish_is i e = ap (λ t. finish_by (is_empty t)) (blanks_left i e)
+  where
+    finish_by : Bool → Outcome (Unit {0})
+    finish_by b = if b then Ok (done, []) else Err Refused
+
+finish_reach : (before : Option Token) (i : Characters) → Stand [] before [] i → Reached (finish i) done [] before []
+finish_reach before i s = record {
+  rest = [];
+  is = finish_is i (last_gap s);
+  ascii = refl;
+  stand = ended (record { gap = []; spaces = refl; fits = refl; parts = refl });
+}
+
+closing_reach : (before : Option Token) (i : Characters) → IsTrue (is_ascii i) → Stand Here before (Punct (codes ";") ∷ Punct (codes "}") ∷ Punct (codes ")") ∷ Punct (codes ";") ∷ []) i
+    → Reached (closing i) done [] (Some (Punct (codes ";"))) []
+unfolding closing
+closing_reach before i a s =
+    reach_then _ (sign_reach (codes ";") (Punct (codes ";")) (λ j. refl) (λ j. refl) a s) (λ j a s.
+    reach_then _ (sign_reach (codes "}") (Punct (codes "}")) (λ j. refl) (λ j. refl) a s) (λ j a s.
+    reach_then _ (sign_reach (codes ")") (Punct (codes ")")) (λ j. refl) (λ j. refl) a s) (λ j a s.
+    reach_then _ (sign_reach (codes ";") (Punct (codes ";")) (λ j. refl) (λ j. refl) a s) (λ j a s.
+    finish_reach _ j s))))
+
+name_is : (initial : Option Characters) (name : Characters) → NameFits name → NameFits (name_of (signal_of initial name))
+name_is None name h = refl
+name_is (Some digits) name h = h
+
+-- what the form asks of a signal, as the reader's tests
+small_of : (initial : Option Characters) (imported : Names) (all : List First_attribute) (shape : Shape) → IsTrue (state_fits initial (names_of imported) all shape) → IsTrue (initial_small initial)
+small_of None imported all shape h = refl
+small_of (Some digits) imported all shape h = left (nat_le (number_after 10 0 digits) 1000000) _ h
+
+stand_of : (initial : Option Characters) (name : Characters) (imported : Names) (all : List First_attribute) (shape : Shape) → IsTrue (state_fits initial (names_of imported) all shape)
+    → IsTrue (may_stand (signal_of initial name) (names_of imported))
+stand_of None name imported all shape h = refl
+stand_of (Some digits) name imported all shape h = right (nat_le (number_after 10 0 digits) 1000000) _ h
+
+uses_of : (initial : Option Characters) (name : Characters) (imported : Names) (all : List First_attribute) (shape : Shape) → IsTrue (state_fits initial (names_of imported) all shape)
+    → Uses (signal_of initial name) all
+uses_of (Some digits) name imported all shape h = refl
+uses_of None name imported all Selfclosing h = h
+uses_of None name imported all Empty h = h
+uses_of None name imported all Shown h = absurd (false≢true h)
+
+shape_of : (initial : Option Characters) (name : Characters) (imported : Names) (all : List First_attribute) (shape : Shape) → IsTrue (state_fits initial (names_of imported) all shape)
+    → ShapeUses (signal_of initial name) shape
+shape_of (Some digits) name imported all Selfclosing h = tt
+shape_of (Some digits) name imported all Empty h = tt
+shape_of (Some digits) name imported all Shown h = refl
+shape_of None name imported all Selfclosing h = tt
+shape_of None name imported all Empty h = tt
+shape_of None name imported all Shown h = absurd (false≢true h)
+
+-- without a signal nothing speaks of its name
+no_clicks : (name other : Characters) (all : List First_attribute) → IsTrue (not (is_one_of (codes "onClick$") (map attribute_name all))) → attributes_of name all ≡ attributes_of other all
+no_clicks name other [] h = refl
+no_clicks name other (Id id ∷ others) h = ap (λ more. Attributes.Set_text (codes "id") 34 id more) (no_clicks name other others h)
+no_clicks name other (On_click up ∷ others) h = absurd (false≢true h)
+
+same_element : (initial : Option Characters) (name found : Characters) (imported : Names) (all : List First_attribute) (shape : Shape) → IsTrue (state_fits initial (names_of imported) all shape)
+    → element_of shape name found (attributes_of name all) ≡ element_of shape (name_of (signal_of initial name)) found (attributes_of (name_of (signal_of initial name)) all)
+same_element (Some digits) name found imported all shape h = refl
+same_element None name found imported all Selfclosing h = ap (λ more. Element.Closed found more) (no_clicks name (codes "a") all h)
+same_element None name found imported all Empty h = ap (λ more. Element.Open found more Inside.No_child found) (no_clicks name (codes "a") all h)
+same_element None name found imported all Shown h = absurd (false≢true h)
+
+parts_reach : (f : First_text) → Fits f → (i : Characters) → IsTrue (is_ascii i)
+    → Stand [] None (whole_tokens f.imported f.initial f.name (element_of f.shape (name_of (signal_of f.initial f.name)) f.tag (attributes_of (name_of (signal_of f.initial f.name)) f.attributes))) i
+    → Reached (first i) (module_with (import_of f.imported) (component (signal_of f.initial f.name) (jsx_of (name_of (signal_of f.initial f.name)) f.tag f.attributes f.shape))) [] (Some (Punct (codes ";"))) []
+unfolding first
+parts_reach f fits i a s =
+    let it : Option Signal = signal_of f.initial f.name in
+    let named = name_is f.initial f.name fits.named in
+    let qwik = left (are_qwik_names (names_of f.imported)) _ (left (are_qwik_names (names_of f.imported) && is_distinct (names_of f.imported)) _ fits.qwik) in
+    let distinct = right (are_qwik_names (names_of f.imported)) _ (left (are_qwik_names (names_of f.imported) && is_distinct (names_of f.imported)) _ fits.qwik) in
+    let has_component = right (are_qwik_names (names_of f.imported) && is_distinct (names_of f.imported)) _ fits.qwik in
+    let one_each = right (attributes_fit f.attributes) _ fits.attributed in
+    let fit = left (attributes_fit f.attributes) _ fits.attributed in
+    let jsx : Jsx = jsx_of (name_of it) f.tag f.attributes f.shape in
+    reach_then _ (import_reach f.imported _ i qwik distinct has_component a s) (λ j a s.
+    reach_then _ (opening_reach _ j a s) (λ j a s.
+    reach_then _ (state_reach f.initial f.name _ _ j fits.named (small_of f.initial f.imported f.attributes f.shape fits.state) a s) (λ j a s.
+    reach_then _ (element_reach it named f.tag f.attributes f.shape fits.tagged one_each fit (uses_of f.initial f.name f.imported f.attributes f.shape fits.state)
+    (shape_of f.initial f.name f.imported f.attributes f.shape fits.state) _ j a s) (λ j a s.
+    reach_then _ (closing_reach _ j a s) (λ j a s.
+    if_reach (may_stand it (names_tree f.imported)) (pure (module_with (import_of f.imported) (component it jsx))) refuse j
+    (ap (λ xs. may_stand it xs) (names_bytes f.imported qwik) ∙ stand_of f.initial f.name f.imported f.attributes f.shape fits.state)
+    (reached (module_with (import_of f.imported) (component it jsx)) j a s))))))
+
+pub first_reach : (f : First_text) → Fits f → (i : Characters) → IsTrue (is_ascii i) → Stand [] None (module_tokens (module_of f)) i
+    → Reached (first i) (module_with (import_of f.imported) (component (signal_of f.initial f.name) (jsx_of (name_of (signal_of f.initial f.name)) f.tag f.attributes f.shape))) [] (Some (Punct (codes ";"))) []
+first_reach f fits i a s = parts_reach f fits i a (subst (λ ts. Stand [] None ts i) (whole f ∙ ap (λ x. whole_tokens f.imported f.initial f.name x) (same_element f.initial f.name f.tag f.imported f.attributes f.shape fits.state)) s)

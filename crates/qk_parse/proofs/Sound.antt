@@ -554,7 +554,7 @@ names_from_good (suc n) found i =
     by x j r false k q rest = good (last_names found i x j k q.comma q.middle r q.first q.second)
     by x j r true k q rest = good_map rest (λ xs m s. next_names found i x j k xs m q.middle r (comma_there q.comma j q.middle q.either q.first) q.second s)
 
-abbrev import_tokens_of : Names → List Token → List Token
+abbrev pub import_tokens_of : Names → List Token → List Token
 import_tokens_of imported ts = Reserved (codes "import") ∷ Punct (codes "{") ∷ names_tokens imported (Punct (codes "}") ∷ Name (codes "from") ∷ Text 34 (map Piece.Plain (codes "@builder.io/qwik")) ∷ Punct (codes ";") ∷ ts)
 
 pub record ImportRead (i : Characters) (x : Import) (j : Characters) : Type 0 where
@@ -680,7 +680,7 @@ state_tests it None imported all Shown e small stand uses shows = absurd (false�
 state_tests it None imported all Selfclosing e small stand uses shows = subst (λ it. IsTrue (is_there it || not (is_one_of (codes "onClick$") (map attribute_name all)))) (sym e) uses
 state_tests it None imported all Empty e small stand uses shows = subst (λ it. IsTrue (is_there it || not (is_one_of (codes "onClick$") (map attribute_name all)))) (sym e) uses
 
-abbrev whole_tokens : Names → Option Characters → Characters → Element → List Token
+abbrev pub whole_tokens : Names → Option Characters → Characters → Element → List Token
 whole_tokens imported initial name element = import_tokens_of imported (Reserved (codes "export") ∷ Reserved (codes "const") ∷ Name (codes "App") ∷ Punct (codes "=")
     ∷ Name (codes "component$") ∷ Punct (codes "(") ∷ Punct (codes "(") ∷ Punct (codes ")") ∷ Punct (codes "=>") ∷ Punct (codes "{")
     ∷ state_tokens initial name (Reserved (codes "return") ∷ element_tokens element (Punct (codes ";") ∷ Punct (codes "}") ∷ Punct (codes ")") ∷ Punct (codes ";") ∷ [])))
