@@ -47,7 +47,7 @@ ok_err {A = A} h = false≢true (sym (ap (λ o. is_ok o) h))
     is_ok (Ok p) = true
     is_ok (Err e) = false
 
-stood : (bytes : List ℕ) (m : Module) → (h : HasFirstForm bytes m) → Stand [] None (module_tokens (module_of h.text)) h.characters
+pub stood : (bytes : List ℕ) (m : Module) → (h : HasFirstForm bytes m) → Stand [] None (module_tokens (module_of h.text)) h.characters
 stood bytes m h = subst (λ ts. Stand [] None ts h.characters) h.read (subst (λ i. Stand [] None (tokens_of h.writing) i) h.spells (stand_of h.writing [] None h.stand h.plain))
 
 -- what has the form isn't refused

@@ -1,6 +1,7 @@
 pub mod Answered
 pub mod Complete
 pub mod Names
+pub mod One
 pub mod Pieces
 pub mod Plain
 pub mod Sound

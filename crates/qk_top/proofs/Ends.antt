@@ -20,6 +20,7 @@ use Rattle.qk_top.specs.Stops.{status_of, last_line_of, EndsForFaults, IsPut, Pu
 use Rattle.qk_top.specs.Coming.{CommandPlays, CommandComes}
 use Rattle.qk_top.specs.Run.{IsOneOf, Comes}
 use Rattle.qk_top.proofs.Plays.{front_behind, pieces_join}
+use Rattle.qk_parse.proofs.One.{one_first}
 use Rattle.qk_top.proofs.Scripts.{one_clicks}
 
 put_nothing : (o : Option (List ℕ)) → o ≡ option_map (with_piece []) o
@@ -69,10 +70,6 @@ memory_complete between after f g h status (in_want e kept faults) same none = i
 -- a script clicks at one list of ids
 one_script : (text : Text) (ids others : List Text) → IsFirstScript text ids → IsFirstScript text others → ids ≡ others
 one_script text ids others a b = one_clicks text ids others a.words b.words a.spelled b.spelled
-
--- a text has one module of the first form
-one_first : (source : Text) (m n : Module) → HasFirstForm source m → HasFirstForm source n → m ≡ n
-one_first source m n a b = ?
 
 -- an answer that stops a command before anything is put
 module _ (words : List Text) (told : Files) where
