@@ -257,7 +257,7 @@ last_sign Shown = Some (Punct (codes ">"))
 open_reach : (it : Option Signal) → NameFits (name_of it) → (w : Characters) (all : List First_attribute) (shows : Bool) → IsTrue (is_one_of w first_tags) → IsTrue (is_distinct (map attribute_name all))
     → IsTrue (attributes_fit all) → Uses it all → IsTrue (not shows || is_there it) → (ts : List Token) (i : Characters) → IsTrue (is_ascii i)
     → Stand Here (Some (Reserved (codes "return"))) (Begin (codes "<") ∷ Name w
-      ∷ attributes_tokens (attributes_of (name_of it) all) (Punct (codes ">") ∷ inside shows (name_of it) (Punct (codes "</") ∷ Name w ∷ Punct (codes ">") ∷ ts))) i
+    ∷ attributes_tokens (attributes_of (name_of it) all) (Punct (codes ">") ∷ inside shows (name_of it) (Punct (codes "</") ∷ Name w ∷ Punct (codes ">") ∷ ts))) i
     → Reached (element it i) (jsx_of (name_of it) w all (open_shape shows)) Here (Some (Punct (codes ">"))) ts
 unfolding element
 open_reach it fits w all shows h d f u v ts i a s =

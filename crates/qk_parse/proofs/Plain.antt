@@ -81,10 +81,10 @@ module_plain f fits =
     let end : AllPlain (Punct (codes ";") ∷ Punct (codes "}") ∷ Punct (codes ")") ∷ Punct (codes ";") ∷ []) = ((λ j f a. a), ((λ j f a. a), ((λ j f a. a), ((λ j f a. a), tt)))) in
     let element = element_plain f.shape f.name f.tag f.attributes _ fits.named fits.tagged (left (attributes_fit f.attributes) _ fits.attributed) end in
     let returned : AllPlain (Reserved (codes "return") ∷ element_tokens (element_of f.shape f.name f.tag (attributes_of f.name f.attributes)) (Punct (codes ";") ∷ Punct (codes "}") ∷ Punct (codes ")") ∷ Punct (codes ";") ∷ [])) =
-        ((λ j f a. a), element) in
+    ((λ j f a. a), element) in
     let block = state_plain f.initial f.name _ fits.named returned in
     let head : AllPlain (opening_tokens (state_tokens f.initial f.name (Reserved (codes "return") ∷ element_tokens (element_of f.shape f.name f.tag (attributes_of f.name f.attributes)) (Punct (codes ";") ∷ Punct (codes "}") ∷ Punct (codes ")") ∷ Punct (codes ";") ∷ [])))) =
-        ((λ j f a. a), ((λ j f a. a), ((λ j f a. a), ((λ j f a. a), ((λ j f a. a), ((λ j f a. a), ((λ j f a. a), ((λ j f a. a), ((λ j f a. a), ((λ j f a. a), ((λ j f a. a), ((λ j f a. a), ((λ j f a. a), ((λ j f a. a), block)))))))))))))) in
+    ((λ j f a. a), ((λ j f a. a), ((λ j f a. a), ((λ j f a. a), ((λ j f a. a), ((λ j f a. a), ((λ j f a. a), ((λ j f a. a), ((λ j f a. a), ((λ j f a. a), ((λ j f a. a), ((λ j f a. a), ((λ j f a. a), ((λ j f a. a), block)))))))))))))) in
     subst AllPlain (sym (whole f)) ((λ j f a. a), ((λ j f a. a), names_plain f.imported _ (left _ _ (left _ _ fits.qwik)) head))
 
 -- ---- their bytes

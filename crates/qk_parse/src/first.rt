@@ -168,11 +168,7 @@ fn more(source: &mut Source<'_>) -> Result<bool, Fault>
     if source.eat(b"}") {
         return Ok(false);
     }
-    if comma {
-        Ok(true)
-    } else {
-        Err(Fault::Refused)
-    }
+    if comma { Ok(true) } else { Err(Fault::Refused) }
 }
 
 /// The names between the braces of an import, each one of the framework's and none twice, and the closing brace.
@@ -258,10 +254,7 @@ fn signal_name<'a>(source: &mut Source<'a>) -> Result<Word<'a>, Fault>
 {
     let name = source.word(Kind::Code);
     let word = name.as_bytes();
-    if is_short_word(word)
-        && !is_one_of(word, &RESERVED_WORDS)
-        && !is_one_of(word, &KNOWN_NAMES)
-    {
+    if is_short_word(word) && !is_one_of(word, &RESERVED_WORDS) && !is_one_of(word, &KNOWN_NAMES) {
         Ok(name)
     } else {
         Err(Fault::Refused)
@@ -302,11 +295,7 @@ fn state<'a>(source: &mut Source<'a>) -> Result<Option<Signal<'a>>, Fault>
 
 /// `NAME.value` of the signal.
 #[tactic(auto, unfolding(crate::specs::Reader::value))]
-fn value(
-    alloc: Global,
-    source: &mut Source<'_>,
-    signal: &Option<Signal<'_>>,
-) -> Result<Expr, Fault>
+fn value(alloc: Global, source: &mut Source<'_>, signal: &Option<Signal<'_>>) -> Result<Expr, Fault>
     ensures { Reads (spec.value signal.now source.old) result source.new }
 {
     let Some(signal) = signal else {
@@ -409,7 +398,10 @@ fn attributes(
     let Some(second) = attribute(alloc, source, signal)? else {
         return Ok(one(alloc, first)?);
     };
-    if is_same(second.key.as_str().as_bytes(), first.key.as_str().as_bytes()) {
+    if is_same(
+        second.key.as_str().as_bytes(),
+        first.key.as_str().as_bytes(),
+    ) {
         return Err(Fault::Refused);
     }
     Ok(two(alloc, first, second)?)
@@ -494,11 +486,7 @@ fn statements(
 }
 
 /// The component that `App` is.
-fn component(
-    alloc: Global,
-    signal: &Option<Signal<'_>>,
-    element: Jsx,
-) -> Result<Expr, AllocError>
+fn component(alloc: Global, signal: &Option<Signal<'_>>, element: Jsx) -> Result<Expr, AllocError>
     ensures { IfOk result (λ it. it ≡ spec.component signal.now element) }
 {
     let body = Body::Block(statements(alloc, signal, element)?);

@@ -48,10 +48,7 @@ pub fn called(alloc: Global, f: Text, argument: Expr) -> Result<Expr, AllocError
     ensures { IfOk result (λ x. x ≡ spec.called f argument) }
 {
     let call = Link::Call(one(alloc, argument)?);
-    Ok(Expr::Post(
-        Shared::new(alloc, Expr::Name(f))?,
-        one(alloc, call)?,
-    ))
+    Ok(Expr::Post(Shared::new(alloc, Expr::Name(f))?, one(alloc, call)?))
 }
 
 /// An arrow without parameters, the one with this number in its module.
