@@ -15,7 +15,7 @@ use Rattle.qk_top.specs.declared.stop.Stop.{Stop}
 use Rattle.qk_top.specs.declared.stop.Stop.TheVariants.{Usage, Script, Application, StoreFailed, SinkFailed, Memory}
 use Rattle.qk_top.specs.Words.{IsReplay}
 use Rattle.qk_top.specs.Script.{IsFirstScript}
-use Rattle.qk_top.specs.Answers.{root_name, IsUsage, Plays, RefusedScript, gone_script, refused_script, RefusedApplication, gone_root, refused_root, IsAccepted, IsOutput, Answers, played, usage, application as refused_application, script, store_failed, memory, memory_alone}
+use Rattle.qk_top.specs.Answers.{root_name, IsUsage, Plays, RefusedScript, gone_script, refused_script, RefusedApplication, gone_root, refused_root, IsAccepted, IsOutput, Answers, played, usage, application as refused_application, script, store_failed, IsFront, nothing, begun, memory, memory_alone}
 use Rattle.qk_top.specs.Stops.{status_of, last_line_of, EndsForFaults, IsPut, PutsLastLine, whole, in_part, in_want, Finishes}
 use Rattle.qk_top.specs.Coming.{CommandPlays, CommandComes}
 use Rattle.qk_top.specs.Run.{IsOneOf, Comes}
@@ -86,7 +86,7 @@ module _ (words : List Text) (told : Files) where
       (last_line_of stop, subst (λ s. Answers words told s (last_line_of stop)) (sym e) answer, put ∙ ap (option_map (with_piece (last_line_of stop))) same)
   quiet_whole stop before between after f g status answer same (in_part e front rose later) other = absurd (other e)
   quiet_whole stop before between after f g status answer same (in_want e kept faults) other =
-      (take 0 (last_line_of stop), subst (λ s. Answers words told s (take 0 (last_line_of stop))) (sym e) (memory_alone 0 answer), kept ∙ same ∙ put_nothing before)
+      ([], subst (λ s. Answers words told s []) (sym e) (memory_alone nothing), kept ∙ same ∙ put_nothing before)
 
   quiet_front : (stop : Stop) (before between after : Option Text) (f g status : ℕ) → Answers words told (status_of stop) (last_line_of stop) → between ≡ before → PutsLastLine stop between after f g status → status ≡ 7 → ¬ (status_of stop ≡ 7) → Front before after
   unfolding Front
@@ -95,23 +95,23 @@ module _ (words : List Text) (told : Files) where
   quiet_front stop before between after f g status answer same (in_want e kept faults) seven other = absurd (eight_seven status e seven)
 
   -- the line `memory` behind a front of what was played
-  memory_whole : (before between after : Option Text) (f g status n : ℕ) (text : Text) {was : ℕ} → Answers words told was text → between ≡ option_map (with_piece (take n text)) before → PutsLastLine Memory between after f g status → ¬ (status ≡ 7) → Whole before after status
+  memory_whole : (before between after : Option Text) (f g status : ℕ) (text : Text) → IsFront words told text → between ≡ option_map (with_piece text) before → PutsLastLine Memory between after f g status → ¬ (status ≡ 7) → Whole before after status
   unfolding Whole
-  memory_whole before between after f g status n text answer part (whole e put kept) other = (
-    take n text ++ last_line_of Memory,
-    subst (λ s. Answers words told s (take n text ++ last_line_of Memory)) (sym e) (memory n answer),
-    put ∙ ap (option_map (with_piece (last_line_of Memory))) part ∙ pieces_join (take n text) (last_line_of Memory) before,
+  memory_whole before between after f g status text front part (whole e put kept) other = (
+    text ++ last_line_of Memory,
+    subst (λ s. Answers words told s (text ++ last_line_of Memory)) (sym e) (memory front),
+    put ∙ ap (option_map (with_piece (last_line_of Memory))) part ∙ pieces_join text (last_line_of Memory) before,
   )
-  memory_whole before between after f g status n text answer part (in_part e front rose later) other = absurd (other e)
-  memory_whole before between after f g status n text answer part (in_want e kept faults) other =
-      (take n text, subst (λ s. Answers words told s (take n text)) (sym e) (memory_alone n answer), kept ∙ part)
+  memory_whole before between after f g status text front part (in_part e begins rose later) other = absurd (other e)
+  memory_whole before between after f g status text front part (in_want e kept faults) other =
+      (text, subst (λ s. Answers words told s text) (sym e) (memory_alone front), kept ∙ part)
 
-  memory_front : (before between after : Option Text) (f g status n : ℕ) (text : Text) {was : ℕ} → Answers words told was text → between ≡ option_map (with_piece (take n text)) before → PutsLastLine Memory between after f g status → status ≡ 7 → Front before after
+  memory_front : (before between after : Option Text) (f g status : ℕ) (text : Text) → IsFront words told text → between ≡ option_map (with_piece text) before → PutsLastLine Memory between after f g status → status ≡ 7 → Front before after
   unfolding Front
-  memory_front before between after f g status n text answer part (whole e put kept) seven = absurd (eight_seven status e seven)
-  memory_front before between after f g status n text answer part (in_part e front rose later) seven =
-      (8, take n text ++ last_line_of Memory, memory n answer, front_behind (take n text) (last_line_of Memory) (take n text ++ last_line_of Memory) before between after part front refl)
-  memory_front before between after f g status n text answer part (in_want e kept faults) seven = absurd (eight_seven status e seven)
+  memory_front before between after f g status text front part (whole e put kept) seven = absurd (eight_seven status e seven)
+  memory_front before between after f g status text front part (in_part e begins rose later) seven =
+      (8, text ++ last_line_of Memory, memory front, front_behind text (last_line_of Memory) (text ++ last_line_of Memory) before between after part begins refl)
+  memory_front before between after f g status text front part (in_want e kept faults) seven = absurd (eight_seven status e seven)
 
   accepted_answer : (text : Text) → CommandPlays words told text → Answers words told 0 text
   accepted_answer text plays = played plays.accepted plays.printed
@@ -127,9 +127,9 @@ module _ (words : List Text) (told : Files) where
   printed_whole StoreFailed before between after f g status comes ends other = quiet_whole StoreFailed before between after f g status store_failed comes ends other
   printed_whole SinkFailed before between after f g status comes ends other = absurd (other ends.0)
   printed_whole Memory before between after f g status (inl same) ends other =
-      memory_whole before between after f g status 0 (line (codes "store failed")) store_failed (same ∙ put_nothing before) ends other
+      memory_whole before between after f g status [] nothing (same ∙ put_nothing before) ends other
   printed_whole Memory before between after f g status (inr part) ends other =
-      memory_whole before between after f g status part.2.taken part.0 (accepted_answer part.0 part.1) part.2.appended ends other
+      memory_whole before between after f g status _ (begun part.2.taken part.1.accepted part.1.printed) part.2.appended ends other
 
   pub printed_front : (stop : Stop) (before between after : Option Text) (f g status : ℕ) → CommandComes words told before between (Err stop) → Finishes stop between after f g status → status ≡ 7
       → (other : ℕ) × (text : Text) × Answers words told other text × AppendsFront text before after
@@ -139,8 +139,8 @@ module _ (words : List Text) (told : Files) where
   printed_front (Application kind) before between after f g status comes ends seven = quiet_front (Application kind) before between after f g status (refused_application comes.0) comes.1 ends seven (λ e. omega arith)
   printed_front StoreFailed before between after f g status comes ends seven = quiet_front StoreFailed before between after f g status store_failed comes ends seven (λ e. omega arith)
   printed_front SinkFailed before between after f g status comes ends seven = (0, comes.0, accepted_answer comes.0 comes.1, record { taken = comes.2.taken; appended = ends.1 ∙ comes.2.appended })
-  printed_front Memory before between after f g status (inl same) ends seven = memory_front before between after f g status 0 (line (codes "store failed")) store_failed (same ∙ put_nothing before) ends seven
-  printed_front Memory before between after f g status (inr part) ends seven = memory_front before between after f g status part.2.taken part.0 (accepted_answer part.0 part.1) part.2.appended ends seven
+  printed_front Memory before between after f g status (inl same) ends seven = memory_front before between after f g status [] nothing (same ∙ put_nothing before) ends seven
+  printed_front Memory before between after f g status (inr part) ends seven = memory_front before between after f g status _ (begun part.2.taken part.1.accepted part.1.printed) part.2.appended ends seven
 
   -- ---- one cause excludes the others
 

@@ -48,6 +48,11 @@ pub record IsOutput (m : Module) (ids : List Text) (text : Text) : Type 0 where
   pub run : Run (application_of m) (λ w. w) (map click ids) entries
   pub printed : text ≡ output (application_of m) entries
 
+-- a front of what is printed where the command is accepted, or nothing
+pub data IsFront (words : List Text) (told : Files) : Text → Type 0 where
+  nothing : IsFront words told []
+  begun : {m : Module} {ids : List Text} {text : Text} (n : ℕ) → IsAccepted words told m ids → IsOutput m ids text → IsFront words told (take n text)
+
 -- each status with its cause and all that is printed
 pub data Answers (words : List Text) (told : Files) : ℕ → Text → Type 0 where
   played : {m : Module} {ids : List Text} {text : Text} → IsAccepted words told m ids → IsOutput m ids text → Answers words told 0 text
@@ -55,6 +60,6 @@ pub data Answers (words : List Text) (told : Files) : ℕ → Text → Type 0 wh
   application : {kind : Text} → RefusedApplication words told kind → Answers words told 2 (line (codes "refused " ++ (kind ++ codes " root -")))
   script : {kind : Text} → RefusedScript words told kind → Answers words told 5 (line (codes "refused " ++ kind))
   store_failed : Answers words told 6 (line (codes "store failed"))
-  -- want of memory: a front of what would have been printed, then the last line or nothing
-  memory : {status : ℕ} {text : Text} (n : ℕ) → Answers words told status text → Answers words told 8 (take n text ++ line (codes "memory"))
-  memory_alone : {status : ℕ} {text : Text} (n : ℕ) → Answers words told status text → Answers words told 8 (take n text)
+  -- want of memory: a front of what would have been played, then the last line or nothing
+  memory : {front : Text} → IsFront words told front → Answers words told 8 (front ++ line (codes "memory"))
+  memory_alone : {front : Text} → IsFront words told front → Answers words told 8 front
