@@ -8,3 +8,4 @@ pub mod Shown
 pub mod Numbers
 pub mod Commands
 pub mod Scripts
+pub mod Orders

@@ -7,5 +7,6 @@ pub mod Standing
 pub mod Answers
 pub mod Stops
 pub mod Sources
+pub mod Reads
 pub mod Coming
 pub mod Run

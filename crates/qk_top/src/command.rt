@@ -4,6 +4,7 @@ ghost use Rattle.qk_store.specs.Causes.{Rose};
 ghost use Rattle.qk_store.specs.Pieces.{with_piece, AppendsFront};
 ghost use Rattle.qk_top.specs.Answers.{IsUsage};
 ghost use Rattle.qk_top.specs.Stops.{PutsLastLine, Finishes};
+ghost use Rattle.qk_top.specs.Reads.{ReadsInOrder};
 ghost use Rattle.qk_top.specs.Run.{Headline, Complete, Printed, PrintedFront, Comes, IsOneOf};
 
 use crate::replay::replay;
@@ -37,6 +38,7 @@ pub fn run<S: Store, K: Sink>(alloc: Global, words: &[String], store: &mut S, ou
     ensures never_fall { (S.faults store.old ≤ S.faults store.new) × (K.faults out.old ≤ K.faults out.new) }
 
     ensures files { S.files store.new ≡ S.files store.old }
+    ensures order { ReadsInOrder (map string_bytes words.now) (S.answers store.old) (S.answers store.new) }
 {
     match replay(alloc, words, store, out) {
         Ok(()) => 0,

@@ -1,7 +1,8 @@
 ghost use Rattle.std.specs.Prelude.{◌≡◌, ◌≤◌, Some, map, length, string_bytes, IsErrOf, ◌↔◌, Err};
 ghost use Rattle.qk_top.specs.Stops.{EndsForFaults};
-ghost use Rattle.qk_top.specs.Answers.{IsUsage};
+ghost use Rattle.qk_top.specs.Answers.{root_name, IsUsage};
 ghost use Rattle.qk_top.specs.Coming.{RootComes, CommandComes};
+ghost use Rattle.qk_top.specs.Reads.{MayRead, ReadsInOrder};
 
 use crate::play::play;
 use crate::script::clicked_ids;
@@ -23,6 +24,7 @@ pub(crate) fn replay<S: Store, K: Sink>(
     ensures usage { (result ≡ Err Stop.Usage) ↔ IsUsage (map string_bytes words.now) }
     ensures unput { IsErrOf result Stop.Usage → K.bytes out.new ≡ K.bytes out.old }
     ensures files { S.files store.new ≡ S.files store.old }
+    ensures order { ReadsInOrder (map string_bytes words.now) (S.answers store.old) (S.answers store.new) }
     ensures store { EndsForFaults Stop.StoreFailed (S.faults store.old) (S.faults store.new) result }
     ensures sink { EndsForFaults Stop.SinkFailed (K.faults out.old) (K.faults out.new) result }
 {
@@ -48,6 +50,7 @@ fn replay_clicks<S: Store, K: Sink>(
     ensures comes { (told : _) → S.files store.old ≡ Some told → RootComes told (map (λ id. id.now) clicks.now) (K.bytes out.old) (K.bytes out.new) result }
     ensures command { ¬ IsErrOf result Stop.Usage }
     ensures files { S.files store.new ≡ S.files store.old }
+    ensures reads { MayRead root_name (S.answers store.old) (S.answers store.new) }
     ensures store { EndsForFaults Stop.StoreFailed (S.faults store.old) (S.faults store.new) result }
     ensures sink { EndsForFaults Stop.SinkFailed (K.faults out.old) (K.faults out.new) result }
 {

@@ -1,8 +1,11 @@
-ghost use Rattle.std.specs.Prelude.{◌≡◌, ◌<◌, Some, None, IfOk, IfErr, IsErrOf, ◌⊎◌};
+ghost use Rattle.std.specs.Prelude.{◌≡◌, ◌<◌, Some, None, IfOk, OnErr, IfErr, IsErrOf, ◌⊎◌};
+ghost use Rattle.std.specs.Option.{option_map};
 ghost use Rattle.qk_ast.specs.First.{HasFirstForm};
-ghost use Rattle.qk_store.specs.Answers.{content, reading};
+ghost use Rattle.qk_store.specs.Answers.{content, reading, with_answer, bytes as content_bytes};
 ghost use Rattle.qk_top.specs.Stops.{EndsForFaults};
 ghost use Rattle.qk_top.specs.Sources.{IsScript, IsRoot};
+ghost use Rattle.qk_top.specs.Reads.{IsRead, MayRead};
+ghost use Rattle.qk_top.specs.Answers.{root_name};
 
 use crate::stop::{ApplicationRefusal, ScriptRefusal, Stop};
 use qk_ast::Module;
@@ -20,6 +23,8 @@ const LONGEST_MODULE: usize = 1_048_576;
 /// The bytes of the script of this name.
 pub(crate) fn read_script<S: Store>(store: &mut S, name: &str) -> Result<Vec<u8>, Stop>
     ensures found { (told : _) → S.files store.old ≡ Some told → IsScript told name.now result }
+    ensures read { IfOk result (λ b. IsRead name.now (content_bytes b.items) (S.answers store.old) (S.answers store.new)) }
+    ensures reads { MayRead name.now (S.answers store.old) (S.answers store.new) }
     ensures files { S.files store.new ≡ S.files store.old }
     ensures cause { EndsForFaults Stop.StoreFailed (S.faults store.old) (S.faults store.new) result }
     ensures sink { ¬ IsErrOf result Stop.SinkFailed }
@@ -37,6 +42,7 @@ pub(crate) fn read_root<S: Store>(alloc: Global, store: &mut S) -> Result<Module
     ensures found { (told : _) → S.files store.old ≡ Some told → IsRoot told result }
     // Whether or not the store tells its files.
     ensures derives { IfOk result (λ m. (source : _) × HasFirstForm source m) }
+    ensures reads { MayRead root_name (S.answers store.old) (S.answers store.new) }
     ensures files { S.files store.new ≡ S.files store.old }
     ensures cause { EndsForFaults Stop.StoreFailed (S.faults store.old) (S.faults store.new) result }
     ensures sink { ¬ IsErrOf result Stop.SinkFailed }
@@ -68,6 +74,8 @@ fn first_module(alloc: Global, source: &[u8]) -> Result<Module, Stop>
 /// What the store finds under the name.
 fn read_file<S: Store>(store: &mut S, name: &str, most: usize) -> Result<Found, Stop>
     ensures found { IfOk result (λ found. (told : _) → S.files store.old ≡ Some told → content found ≡ reading (told name.now) most) }
+    ensures answered { IfOk result (λ found. S.answers store.new ≡ option_map (with_answer name.now most (content found)) (S.answers store.old)) }
+    ensures refused { OnErr result (S.answers store.new ≡ S.answers store.old) }
     ensures files { S.files store.new ≡ S.files store.old }
     ensures cause { EndsForFaults Stop.StoreFailed (S.faults store.old) (S.faults store.new) result }
     ensures stops { IfErr result (λ stop. (stop ≡ Stop.StoreFailed) ⊎ (stop ≡ Stop.Memory)) }

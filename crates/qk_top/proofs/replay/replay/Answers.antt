@@ -4,6 +4,7 @@ use Rattle.std.proofs.lemmas.List.{length-map}
 use Rattle.qk_top.specs.Script.{IsFirstScript}
 use Rattle.qk_top.specs.Answers.{refused_script}
 use Rattle.qk_top.proofs.Comings.{script_ended, plays_clicks, root_ended, few_clicks}
+use Rattle.qk_top.proofs.Orders.{script_alone, script_and_root}
 use Rattle.qk_top.proofs.replay.replay.Goals as goal
 
 pub returns-in_err-text-clause-comes : goal.returns-in_err-text-clause-comes
@@ -25,3 +26,18 @@ pub returns-in-Ok-None-clause-comes : goal.returns-in-Ok-None-clause-comes
 returns-in-Ok-None-clause-comes g c told e =
     let none = subst (λ o. IfNone o ((ids : _) → ¬ IsFirstScript c.as_slice.result.now ids)) c.in-Ok-None.field-0-is c.in-Ok-None.ensures.none in
     (refused_script c.in-Some.ensures.some (c.in_ok-text.ensures.found told e) (subst (λ t. (ids : _) → ¬ IsFirstScript t ids) c.as_slice.ensures.value none), refl)
+
+pub returns-in_err-text-clause-order : goal.returns-in_err-text-clause-order
+returns-in_err-text-clause-order g c = script_alone _ _ _ _ c.in-Some.ensures.some c.in_err-text.ensures.reads
+
+pub returns-in-Ok-Some-clause-order : goal.returns-in-Ok-Some-clause-order
+returns-in-Ok-Some-clause-order g c =
+    let script = subst (λ o. IfSome o (λ ids. IsFirstScript c.as_slice.result.now (map (λ id. id.now) ids.items))) c.in-Ok-Some.field-0-is c.in-Ok-Some.ensures.some in
+    script_and_root _ _ c.in_ok-text.text.items (map (λ id. id.now) c.in-Ok-Some.clicks.items) _ _ _ c.in-Some.ensures.some (subst (λ t. IsFirstScript t (map (λ id. id.now) c.in-Ok-Some.clicks.items)) c.as_slice.ensures.value script) c.in_ok-text.ensures.read
+    c.replay_clicks.ensures.reads
+
+pub returns-in-Ok-None-clause-order : goal.returns-in-Ok-None-clause-order
+returns-in-Ok-None-clause-order g c = script_alone _ _ _ _ c.in-Some.ensures.some c.in_ok-text.ensures.reads
+
+pub returns-clause-order : goal.returns-clause-order
+returns-clause-order g c = script_alone _ _ _ _ c.in-Some.ensures.some c.in_ok-text.ensures.reads
