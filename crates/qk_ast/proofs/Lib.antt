@@ -2,7 +2,7 @@ pub mod Examples
 pub mod FirstDerives
 mod Fragment
 mod Refused
-mod FrontToken
+pub mod FrontToken
 mod Pieces
 mod OneToken
 mod OneTagToken
