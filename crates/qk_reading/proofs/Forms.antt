@@ -281,7 +281,7 @@ module _ (D : Type 0) (form : Form) where
   abbrev pub Operands_read : Level → Operands → Type 0
   Operands_read level more = (room n m fuel : ℕ) (so_far : List Tree_operand) (rest : List Token) → (room < operands_depth more → D) → m ≡ n + arrows (operands_tokens more)
       → Ends (tightness_of level) rest → length (operands_tokens more rest) ≤ fuel
-      → Reaches D (so_far ++ operands_tree n more) (at rest m) (many_from (operand form room (nesting form room) level (reader_at form room (operand_tightness level))) fuel so_far (at (operands_tokens more rest) n))
+      → Reaches D (so_far ++ operands_tree n more) (at rest m) (many_from (operand level (reader_at form room (operand_tightness level))) fuel so_far (at (operands_tokens more rest) n))
 
   open_level : (level : Level) (k : ℕ) (ts : List Token) → k ≤ tightness_of level → Ends k ts → operator_at level ts ≡ None
   open_level level k ts le f = no_operator level k ts le f
@@ -289,7 +289,7 @@ module _ (D : Type 0) (form : Form) where
   pub no_operand_read : (level : Level) → Operands_read level No_operand
   no_operand_read level room n m fuel so_far rest d q f g =
       rw (
-        many_stop (operand form room (nesting form room) level (reader_at form room (operand_tightness level))) fuel so_far (at rest n)
+        many_stop (operand level (reader_at form room (operand_tightness level))) fuel so_far (at rest n)
             (operand_none D form room level (reader_at form room (operand_tightness level)) (at rest n) (open_level level (tightness_of level) rest (omega arith) f)),
         append-nil,
       ) (moved n m (omega (arith, q)) reached)
@@ -304,9 +304,9 @@ module _ (D : Type 0) (form : Form) where
       → Reads D form x → Operands_read level more → (room n m1 m fuel : ℕ) (so_far : List Tree_operand) (rest : List Token) → (room < depth x → D) → (room < operands_depth more → D)
       → m1 ≡ n + arrows (tokens x) → m ≡ m1 + arrows (operands_tokens more) → Ends (tightness_of level) rest → length (bin_sign op (tokens x (operands_tokens more rest))) ≤ fuel
       → Reaches D (so_far ++ record { op = op; value = tree n x } ∷ operands_tree m1 more) (at rest m)
-      (many_from (operand form room (nesting form room) level (reader_at form room (operand_tightness level))) fuel so_far (at (bin_sign op (tokens x (operands_tokens more rest))) n))
+      (many_from (operand level (reader_at form room (operand_tightness level))) fuel so_far (at (bin_sign op (tokens x (operands_tokens more rest))) n))
   operands_step level op x more own b ke h r room n m1 m fuel so_far rest d d2 q q2 f g =
-      let step = operand form room (nesting form room) level (reader_at form room (operand_tightness level)) in
+      let step = operand level (reader_at form room (operand_tightness level)) in
       let ts = tokens x (operands_tokens more rest) in
       let y : Tree_operand = record { op = op; value = tree n x } in
       let a = sign_length op ts in

@@ -66,20 +66,20 @@ is_coalesce Coalesce_level = true
 is_coalesce _ = false
 
 module _ (D : Type 0) (form : Form) (room : ℕ) where
-  pub operand_none : (level : Level) (tighter : Reader Read) (j : Input) → operator_at level j.tokens ≡ None → operand form room (nesting form room) level tighter j ≡ Ok (None, j)
+  pub operand_none : (level : Level) (tighter : Reader Read) (j : Input) → operator_at level j.tokens ≡ None → operand level tighter j ≡ Ok (None, j)
   unfolding operand operator
   operand_none level tighter j e = rw e refl
 
   pub operand_reach : (level : Level) (tighter : Reader Read) (op : Bin) (ts : List Token) (n : ℕ) (y : Read) (j : Input) → is_of_level level op ≡ true
-      → Reaches D y j (tighter (at ts n)) → Reaches D (Some (record { op = op; value = y.tree })) j (operand form room (nesting form room) level tighter (at (bin_sign op ts) n))
+      → Reaches D y j (tighter (at ts n)) → Reaches D (Some (record { op = op; value = y.tree })) j (operand level tighter (at (bin_sign op ts) n))
   unfolding operand operator operator_at
   operand_reach level tighter op ts n y j h r = rw (sign_seen op ts, h, sign_taken op ts) (reach_then _ r reached)
 
   -- a chain of one
   pub chain_alone : (level : Level) (tighter : Reader Read) (i j : Input) (x : Read) → Reaches D x j (tighter i) → operator_at level j.tokens ≡ None
-      → Reaches D x j (chain form room (nesting form room) level tighter i)
+      → Reaches D x j (chain level tighter i)
   unfolding chain many
-  chain_alone level tighter i j x r e = reach_then _ r (rw (many_stop (operand form room (nesting form room) level tighter) (length j.tokens) [] j (operand_none level tighter j e)) reached)
+  chain_alone level tighter i j x r e = reach_then _ r (rw (many_stop (operand level tighter) (length j.tokens) [] j (operand_none level tighter j e)) reached)
 
   step_down : (k : ℕ) → k ≤ 6 → (i j : Input) (x : Read) → Reaches D x j (reader_at form room (suc k) i) → Ends k j.tokens → Arrowless i.tokens → Reaches D x j (reader_at form room k i)
   unfolding whole arrow_ahead choice logic conjunction equality order sum product many
@@ -88,7 +88,7 @@ module _ (D : Type 0) (form : Form) (room : ℕ) where
       rw a (reach_later _ (reach_then _ r (rw (s, after_unseen (Sign (codes "?")) j s) reached)))
   step_down (suc zero) le i j x r e a =
       let s = unseen (codes "??") j (first_not (codes "??") 1 j.tokens (omega arith) e) in
-      reach_then _ r (rw (s, many_stop (operand form room (nesting form room) Or_level (conjunction form room (nesting form room))) (length j.tokens) [] j (operand_none Or_level (conjunction form room (nesting form room)) j (no_operator Or_level 1 j.tokens (omega arith) e))) reached)
+      reach_then _ r (rw (s, many_stop (operand Or_level (conjunction form room (nesting form room))) (length j.tokens) [] j (operand_none Or_level (conjunction form room (nesting form room)) j (no_operator Or_level 1 j.tokens (omega arith) e))) reached)
   step_down (suc (suc zero)) le i j x r e a = chain_alone And_level _ i j x r (no_operator And_level 2 j.tokens (omega arith) e)
   step_down (suc (suc (suc zero))) le i j x r e a = chain_alone Same_level _ i j x r (no_operator Same_level 3 j.tokens (omega arith) e)
   step_down (suc (suc (suc (suc zero)))) le i j x r e a = chain_alone Order_level _ i j x r (no_operator Order_level 4 j.tokens (omega arith) e)
@@ -146,7 +146,7 @@ module _ (D : Type 0) (form : Form) (room : ℕ) where
   pub chain_own : (level : Level) (i j k : Input) (x : Read) (y : Tree_operand) (ys : List Tree_operand)
       → ((least : ℕ) → least ≤ operand_tightness level → suc (tightness_of level) ≤ least → Reaches D x j (reader_at form room least i))
       → operand_tightness level ≤ kind_tightness x.kind → sees (Sign (codes "??")) j ≡ is_coalesce level
-      → Reaches D (y ∷ ys) k (many (operand form room (nesting form room) level (reader_at form room (operand_tightness level))) j)
+      → Reaches D (y ∷ ys) k (many (operand level (reader_at form room (operand_tightness level))) j)
       → Reaches D (reading (e.Chain x.tree (y ∷ ys)) (Chained level)) k (reader_at form room (tightness_of level) i)
   unfolding chain logic conjunction equality order sum product
   chain_own Or_level i j k x y ys first b s ops = reach_then _ (first 2 (omega arith) (omega arith)) (rw s (reach_then _ ops reached))

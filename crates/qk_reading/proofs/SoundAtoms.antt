@@ -26,7 +26,7 @@ module _ (form : Form) (room : ℕ) (inner : Nested) (nested_sound : (i : Input)
   abbrev Part_read : Input → List ℕ × Bool → Input → Type 0
   Part_read i r j = (ps : List Piece) × (value ps ≡ r.0) × Spans (one (Token.Template Edge.Hole ps (if r.1 then Edge.Hole else Edge.Backquote))) i j
 
-  part_at : (ts : List Token) (n : ℕ) → Sound (Part_read (at ts n)) (part form room inner (at ts n))
+  part_at : (ts : List Token) (n : ℕ) → Sound (Part_read (at ts n)) (part (at ts n))
   unfolding part
   part_at [] n = refused
   part_at (Token.Template Edge.Hole ps Edge.Hole ∷ ts) n = let sp : Spans (one (Token.Template Edge.Hole ps Edge.Hole)) (at (Token.Template Edge.Hole ps Edge.Hole ∷ ts) n) (at ts n) = record { spelt = refl; count = omega arith } in read {j = at ts n} (ps, refl, sp)

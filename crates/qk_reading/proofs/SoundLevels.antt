@@ -204,11 +204,11 @@ module _ (form : Form) (room : ℕ) (inner : Nested) where
   advance_op level i op h = let q = operator_seen level i.tokens op h in let c = bin_uncounted op in (q.0, record { spelt = q.1; count = omega (arith, c) })
 
   operand_sound : (level : Level) (tighter : Reader Read) → ((i : Input) → Sound (Reading form (suc room) (operand_tightness level) i) (tighter i)) → (i : Input)
-      → Sound (Maybe_read (Operand_read level) i) (operand form room inner level tighter i)
+      → Sound (Maybe_read (Operand_read level) i) (operand level tighter i)
   unfolding operand operator
   operand_sound level tighter h i = go (operator_at level i.tokens) refl
     where
-      go : (o : Option Bin) → operator_at level i.tokens ≡ o → Sound (Maybe_read (Operand_read level) i) (operand form room inner level tighter i)
+      go : (o : Option Bin) → operator_at level i.tokens ≡ o → Sound (Maybe_read (Operand_read level) i) (operand level tighter i)
       go None q = rw q (read refl)
       go (Some op) q =
           let a = advance_op level i op q in
@@ -263,12 +263,12 @@ module _ (form : Form) (room : ℕ) (inner : Nested) where
           }
 
   operands_sound : (level : Level) (tighter : Reader Read) → ((i : Input) → Sound (Reading form (suc room) (operand_tightness level) i) (tighter i)) → (i : Input)
-      → Sound (Operands_read level i) (many (operand form room inner level tighter) i)
-  operands_sound level tighter h i = implied (many_sound (Operand_read level) (operand form room inner level tighter) (operand_sound level tighter h) i)
+      → Sound (Operands_read level i) (many (operand level tighter) i)
+  operands_sound level tighter h i = implied (many_sound (Operand_read level) (operand level tighter) (operand_sound level tighter h) i)
       (λ ys k t. subst (λ ys. Operands_read level i ys k) t.parts (operands_of level t.run))
 
   chain_sound : (level : Level) (tighter : Reader Read) → ((i : Input) → Sound (Reading form (suc room) (operand_tightness level) i) (tighter i)) → (i : Input)
-      → Sound (Reading form (suc room) (tightness_of level) i) (chain form room inner level tighter i)
+      → Sound (Reading form (suc room) (tightness_of level) i) (chain level tighter i)
   unfolding chain
   chain_sound level tighter h i = sound_then (h i) (λ x j v. sound_then (operands_sound level tighter h j) (λ ys k t. read (chained_read level i j k x ys v t)))
 

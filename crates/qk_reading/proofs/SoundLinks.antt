@@ -57,7 +57,7 @@ module _ (form : Form) (room : ℕ) (inner : Nested) (nested_sound : (i : Input)
   abbrev Word_read : Input → List ℕ → Input → Type 0
   Word_read i x j = (w : Word) × (word_text w ≡ x) × Spans (word_tokens w) i j
 
-  word_at : (ts : List Token) (n : ℕ) → Sound (Word_read (at ts n)) ((peek >>= dot_by form room inner) (at ts n))
+  word_at : (ts : List Token) (n : ℕ) → Sound (Word_read (at ts n)) ((peek >>= dot_by) (at ts n))
   word_at [] n = refused
   word_at (Token.Name a ∷ ts) n = let sp : Spans (word_tokens (Free a)) (at (Token.Name a ∷ ts) n) (at ts n) = record { spelt = refl; count = omega arith } in read {j = at ts n} (Free a, refl, sp)
   word_at (Token.Reserved a ∷ ts) n = let sp : Spans (word_tokens (Taken a)) (at (Token.Reserved a ∷ ts) n) (at ts n) = record { spelt = refl; count = omega arith } in read {j = at ts n} (Taken a, refl, sp)

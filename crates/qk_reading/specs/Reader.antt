@@ -253,6 +253,80 @@ called_with k object links (xs, comma) = headed object Called (links ++ l.Call x
 unfoldable pub fresh : List ℕ → List Tree_field → Reader (Unit {0})
 fresh key found = if is_one_of key (keys found) then refuse else take_token
 
+abbrev pub part_by : Option Token → Reader (List ℕ × Bool)
+part_by (Some (Token.Template Edge.Hole pieces Edge.Hole)) = take_token >> pure (value pieces, true)
+part_by (Some (Token.Template Edge.Hole pieces Edge.Backquote)) = take_token >> pure (value pieces, false)
+part_by _ = refuse
+
+-- a template's part after a hole, and whether another hole follows it
+unfoldable pub part : Reader (List ℕ × Bool)
+part = peek >>= part_by
+
+abbrev pub word_by : Option Expr → Reader Expr
+word_by None = refuse
+word_by (Some x) = take_token >> pure x
+
+-- a division's dividend is a product, and `/` follows
+abbrev pub is_dividend : Kind → Input → Bool
+is_dividend kind i = nat_le 6 (kind_tightness kind) && first_is (Sign (codes "/")) i.tokens
+
+abbrev pub math_links : List Tree_link
+math_links = l.Prop (bytes (codes "trunc")) ∷ []
+
+abbrev pub math : Expr
+math = e.Name (bytes (codes "Math"))
+
+unfoldable pub divides : Kind → Reader Bool
+divides kind i = Ok (is_dividend kind i, i)
+
+-- OBJECT . METHOD (
+abbrev pub skip_dotted : Reader (Unit {0})
+skip_dotted = take_token >> take_token >> take_token >> take_token
+
+abbrev pub dot_by : Option Token → Reader (List ℕ)
+dot_by (Some (Token.Name a)) = take_token >> pure (bytes a)
+dot_by (Some (Token.Reserved a)) = take_token >> pure (bytes a)
+dot_by _ = refuse
+
+unfoldable pub operand : Level → Reader Read → Reader (Option Tree_operand)
+operand level tighter = do
+  op ← operator level
+  maybe op (pure None) (λ o. (λ (x : Read). Some (record { op = o; value = x.tree })) <$> tighter)
+
+unfoldable pub chain : Level → Reader Read → Reader Read
+chain level tighter = do
+  x ← tighter
+  ys ← many (operand level tighter)
+  pure (chained level x ys)
+
+abbrev pub comma_name_by : Bool → Reader (Option (List ℕ))
+comma_name_by true = (λ a. Some (bytes a)) <$> name
+comma_name_by false = pure None
+
+unfoldable pub comma_name : Reader (Option (List ℕ))
+comma_name = eat (Sign (codes ",")) >>= comma_name_by
+
+abbrev pub scope_call : Expr
+scope_call = e.Post (e.Name (bytes (codes "useLexicalScope"))) (l.Call [] ∷ [])
+
+abbrev pub ended : Stmt → Reader Stmt
+ended x = expect (Sign (codes ";")) >> pure x
+
+-- [a, b] = useLexicalScope();
+unfoldable pub scope : ℕ → Reader Stmt
+scope room = do
+  take_token
+  enter room
+  a ← name
+  more ← many comma_name
+  expect (Sign (codes "]"))
+  expect (Sign (codes "="))
+  expect (Given (codes "useLexicalScope"))
+  expect (Sign (codes "("))
+  expect (Sign (codes ")"))
+  expect (Sign (codes ";"))
+  pure (s.Const (p.Scope (bytes a ∷ more)) scope_call)
+
 module _ (form : Form) (room : ℕ) (inner : Nested) where
   abbrev pub nested : Reader Expr
   nested = (λ (x : Read). x.tree) <$> inner.value Whole
@@ -295,15 +369,6 @@ module _ (form : Form) (room : ℕ) (inner : Nested) where
 
   -- ---- templates
 
-  abbrev pub part_by : Option Token → Reader (List ℕ × Bool)
-  part_by (Some (Token.Template Edge.Hole pieces Edge.Hole)) = take_token >> pure (value pieces, true)
-  part_by (Some (Token.Template Edge.Hole pieces Edge.Backquote)) = take_token >> pure (value pieces, false)
-  part_by _ = refuse
-
-  -- a template's part after a hole, and whether another hole follows it
-  unfoldable pub part : Reader (List ℕ × Bool)
-  part = peek >>= part_by
-
   unfoldable pub holes_from : ℕ → List (List ℕ) → List Expr → Reader (List (List ℕ) × List Expr)
   holes_from zero parts values = refuse
   holes_from (suc n) parts values = do
@@ -333,10 +398,6 @@ module _ (form : Form) (room : ℕ) (inner : Nested) where
       else (if same a (codes "[") then take_token >> ((λ (xs : List Expr × Bool). e.List (xs.0)) <$> args (Sign (codes "]")))
       else (if same a (codes "{") then take_token >> (e.Record <$> fields) else refuse))
 
-  abbrev pub word_by : Option Expr → Reader Expr
-  word_by None = refuse
-  word_by (Some x) = take_token >> pure x
-
   abbrev pub atom_by : Option Token → Reader Read
   atom_by (Some (Token.Name a)) = take_token >> pure (reading (e.Name (bytes a)) Bare)
   atom_by (Some (Token.Reserved a)) = atomic <$> word_by (literal a)
@@ -352,19 +413,6 @@ module _ (form : Form) (room : ℕ) (inner : Nested) where
   atom = peek >>= atom_by
 
   -- ---- calls by a known name
-
-  -- a division's dividend is a product, and `/` follows
-  abbrev pub is_dividend : Kind → Input → Bool
-  is_dividend kind i = nat_le 6 (kind_tightness kind) && first_is (Sign (codes "/")) i.tokens
-
-  abbrev pub math_links : List Tree_link
-  math_links = l.Prop (bytes (codes "trunc")) ∷ []
-
-  abbrev pub math : Expr
-  math = e.Name (bytes (codes "Math"))
-
-  unfoldable pub divides : Kind → Reader Bool
-  divides kind i = Ok (is_dividend kind i, i)
 
   abbrev pub more_by : Expr → Bool → Reader (List Expr × Bool)
   more_by x true i = separated_from (Sign (codes ")")) nested (left i) (x ∷ []) i
@@ -392,10 +440,6 @@ module _ (form : Form) (room : ℕ) (inner : Nested) where
   unfoldable pub trunc : Reader Head
   trunc = enter room >> look (Sign (codes ")")) >>= trunc_from
 
-  -- OBJECT . METHOD (
-  abbrev pub skip_dotted : Reader (Unit {0})
-  skip_dotted = take_token >> take_token >> take_token >> take_token
-
   unfoldable pub called : Known → Reader Head
   called known.Str = take_token >> take_token >> (called_with known.Str (e.Name (bytes (codes "String"))) [] <$> args (Sign (codes ")")))
   called known.Log = skip_dotted >> (called_with known.Log (e.Name (bytes (codes "console"))) (l.Prop (bytes (codes "log")) ∷ []) <$> args (Sign (codes ")")))
@@ -410,11 +454,6 @@ module _ (form : Form) (room : ℕ) (inner : Nested) where
   head i = head_by (known_ahead i.tokens) i
 
   -- ---- postfix forms
-
-  abbrev pub dot_by : Option Token → Reader (List ℕ)
-  dot_by (Some (Token.Name a)) = take_token >> pure (bytes a)
-  dot_by (Some (Token.Reserved a)) = take_token >> pure (bytes a)
-  dot_by _ = refuse
 
   abbrev pub link_sign : Characters → Reader (Option (Tree_link × Kind))
   link_sign a = if same a (codes ".") then take_token >> ((λ w. Some (l.Prop w, Member)) <$> (peek >>= dot_by))
@@ -454,17 +493,6 @@ module _ (form : Form) (room : ℕ) (inner : Nested) where
     if is_not then prefixed un.Not else (do
       is_minus ← eat (Sign (codes "-"))
       if is_minus then prefixed un.Neg else postfix)
-
-  unfoldable pub operand : Level → Reader Read → Reader (Option Tree_operand)
-  operand level tighter = do
-    op ← operator level
-    maybe op (pure None) (λ o. (λ (x : Read). Some (record { op = o; value = x.tree })) <$> tighter)
-
-  unfoldable pub chain : Level → Reader Read → Reader Read
-  chain level tighter = do
-    x ← tighter
-    ys ← many (operand level tighter)
-    pure (chained level x ys)
 
   unfoldable pub product : Reader Read
   product = chain Product_level unary
@@ -626,31 +654,6 @@ module _ (form : Form) (room : ℕ) (inner : Nested) where
     expect (Sign (codes ")"))
     pure x
 
-  abbrev pub comma_name_by : Bool → Reader (Option (List ℕ))
-  comma_name_by true = (λ a. Some (bytes a)) <$> name
-  comma_name_by false = pure None
-
-  unfoldable pub comma_name : Reader (Option (List ℕ))
-  comma_name = eat (Sign (codes ",")) >>= comma_name_by
-
-  abbrev pub scope_call : Expr
-  scope_call = e.Post (e.Name (bytes (codes "useLexicalScope"))) (l.Call [] ∷ [])
-
-  -- [a, b] = useLexicalScope();
-  unfoldable pub scope : Reader Stmt
-  scope = do
-    take_token
-    enter room
-    a ← name
-    more ← many comma_name
-    expect (Sign (codes "]"))
-    expect (Sign (codes "="))
-    expect (Given (codes "useLexicalScope"))
-    expect (Sign (codes "("))
-    expect (Sign (codes ")"))
-    expect (Sign (codes ";"))
-    pure (s.Const (p.Scope (bytes a ∷ more)) scope_call)
-
   unfoldable pub declared : Reader Stmt
   declared = do
     x ← pattern room
@@ -660,7 +663,7 @@ module _ (form : Form) (room : ℕ) (inner : Nested) where
     pure (s.Const x (v.tree))
 
   abbrev pub const_by : Bool → Reader Stmt
-  const_by true = scope
+  const_by true = scope room
   const_by false = declared
 
   -- behind `const`
@@ -675,9 +678,6 @@ module _ (form : Form) (room : ℕ) (inner : Nested) where
     v ← whole
     expect (Sign (codes ";"))
     pure (s.Let (bytes a) (v.tree))
-
-  abbrev pub ended : Stmt → Reader Stmt
-  ended x = expect (Sign (codes ";")) >> pure x
 
   abbrev pub return_by : Bool → Reader Stmt
   return_by true = take_token >> pure (s.Return None)
