@@ -18,3 +18,4 @@ mod SoundLists
 mod SoundLevels
 mod SoundAtoms
 mod SoundLinks
+mod SoundCalls

@@ -41,18 +41,26 @@ not_known (Named a) (Call arguments) more ts h = by_bool (same a (codes "String"
     some_none e = sym (ap (λ o. maybe o false (λ _. true)) e)
 not_known x y more ts h = refl
 
-module _ (form : Form) (room : ℕ) (inner : Nested) (nested_sound : (i : Input) → Sound (Valued form room i) (nested form room inner i)) where
-  pub record Link_read (i : Input) (x : Tree_link) (k : Kind) (j : Input) : Type 0 where
-    pub text : Link
-    pub keeping : link_keeps form text
-    pub flat : link_depth text ≤ room
-    pub means : (n : ℕ) → n ≡ i.arrows → link_tree n text ≡ x
-    pub kinds : link_kind text ≡ k
-    pub spans : Spans (link_tokens text) i j
+pub record Link_read (form : Form) (room : ℕ) (i : Input) (x : Tree_link) (k : Kind) (j : Input) : Type 0 where
+  pub text : Link
+  pub keeping : link_keeps form text
+  pub flat : link_depth text ≤ room
+  pub means : (n : ℕ) → n ≡ i.arrows → link_tree n text ≡ x
+  pub kinds : link_kind text ≡ k
+  pub spans : Spans (link_tokens text) i j
 
+pub record Links_run (form : Form) (room : ℕ) (k : Kind) (so_far : List Tree_link) (i : Input) (r : List Tree_link × Kind) (j : Input) : Type 0 where
+  pub text : Links
+  pub keeping : links_keep form text
+  pub flat : links_depth text ≤ room
+  pub means : (n : ℕ) → n ≡ i.arrows → so_far ++ links_tree n text ≡ r.0
+  pub kinds : last_kind k text ≡ r.1
+  pub spans : Spans (links_tokens text) i j
+
+module _ (form : Form) (room : ℕ) (inner : Nested) (nested_sound : (i : Input) → Sound (Valued form room i) (nested form room inner i)) where
   abbrev Maybe_link : Input → Option (Tree_link × Kind) → Input → Type 0
   Maybe_link i None j = i ≡ j
-  Maybe_link i (Some x) j = Link_read i (x.0) (x.1) j
+  Maybe_link i (Some x) j = Link_read form room i (x.0) (x.1) j
 
   abbrev Word_read : Input → List ℕ → Input → Type 0
   Word_read i x j = (w : Word) × (word_text w ≡ x) × Spans (word_tokens w) i j
@@ -82,19 +90,11 @@ module _ (form : Form) (room : ℕ) (inner : Nested) (nested_sound : (i : Input)
       (λ h3. rw (h1, h2, h3) (read refl))))
   link_at (t ∷ ts) n = read refl
 
-  pub record Links_run (k : Kind) (so_far : List Tree_link) (i : Input) (r : List Tree_link × Kind) (j : Input) : Type 0 where
-    pub text : Links
-    pub keeping : links_keep form text
-    pub flat : links_depth text ≤ room
-    pub means : (n : ℕ) → n ≡ i.arrows → so_far ++ links_tree n text ≡ r.0
-    pub kinds : last_kind k text ≡ r.1
-    pub spans : Spans (links_tokens text) i j
-
-  no_links : (k : Kind) (so_far : List Tree_link) (i j : Input) → i ≡ j → Links_run k so_far i (so_far, k) j
-  no_links k so_far i j q = subst (λ j. Links_run k so_far i (so_far, k) j) q
+  no_links : (k : Kind) (so_far : List Tree_link) (i j : Input) → i ≡ j → Links_run form room k so_far i (so_far, k) j
+  no_links k so_far i j q = subst (λ j. Links_run form room k so_far i (so_far, k) j) q
       (record { text = No_link; keeping = tt; flat = omega arith; means = λ n q. append-nil so_far; kinds = refl; spans = record { spelt = refl; count = omega arith } })
 
-  next_links : (k : Kind) (so_far : List Tree_link) (i a j : Input) (x : Tree_link) (k2 : Kind) (r : List Tree_link × Kind) → Link_read i x k2 a → Links_run k2 (so_far ++ x ∷ []) a r j → Links_run k so_far i r j
+  next_links : (k : Kind) (so_far : List Tree_link) (i a j : Input) (x : Tree_link) (k2 : Kind) (r : List Tree_link × Kind) → Link_read form room i x k2 a → Links_run form room k2 (so_far ++ x ∷ []) a r j → Links_run form room k so_far i r j
   next_links k so_far i a j x k2 r v t =
       let c = v.spans.count in
       record {
@@ -108,18 +108,19 @@ module _ (form : Form) (room : ℕ) (inner : Nested) (nested_sound : (i : Input)
         spans = spans_then (link_framed v.text) v.spans t.spans;
       }
 
-  links_from_sound : (n : ℕ) (k : Kind) (so_far : List Tree_link) (i : Input) → Sound (Links_run k so_far i) (links_from form room inner n k so_far i)
+  links_from_sound : (n : ℕ) (k : Kind) (so_far : List Tree_link) (i : Input) → Sound (Links_run form room k so_far i) (links_from form room inner n k so_far i)
   unfolding links_from
   links_from_sound zero k so_far i = read (no_links k so_far i i refl)
   links_from_sound (suc n) k so_far i = sound_then (link_at i.tokens i.arrows) (λ o a r.
-      elim o as (λ o. Maybe_link i o a → Sound (Links_run k so_far i) (maybe o (pure (so_far, k)) (λ (x : Tree_link × Kind). links_from form room inner n (x.1) (so_far ++ x.0 ∷ [])) a)) [
+      elim o as (λ o. Maybe_link i o a → Sound (Links_run form room k so_far i) (maybe o (pure (so_far, k)) (λ (x : Tree_link × Kind). links_from form room inner n (x.1) (so_far ++ x.0 ∷ [])) a)) [
         | None ↦ λ q. read (no_links k so_far i a q)
         | Some x ↦ λ v. implied (links_from_sound n (x.1) (so_far ++ x.0 ∷ []) a) (λ q j t. next_links k so_far i a j (x.0) (x.1) q v t)
       ] r)
 
-  -- an atom that begins with no known call, and links after it
-  alone_or_linked : (i a j : Input) (x : Read) (r : List Tree_link × Kind) → known_ahead i.tokens ≡ None → Reading form (suc room) 9 i x a → Links_run x.kind [] a r j → Reading form (suc room) 8 i (linked (plain_head x) r) j
-  alone_or_linked i a j x r u v t = subst (λ ls. Reading form (suc room) 8 i (linked (plain_head x) (ls, r.1)) j) (t.means (a.arrows) refl) (go (t.text) (t.keeping) (t.flat) (t.kinds) (t.spans))
+  -- a head of its own, and links after it that make no known call of it
+  pub alone_or_linked : (i a j : Input) (x : Read) (r : List Tree_link × Kind) (v : Reading form (suc room) 9 i x a) → ((y : Link) (more : Links) → tokens v.text (link_tokens y (links_tokens more j.tokens)) ≡ i.tokens → reads_as_known v.text y more ≡ false)
+      → Links_run form room x.kind [] a r j → Reading form (suc room) 8 i (linked (plain_head x) r) j
+  alone_or_linked i a j x r v u t = subst (λ ls. Reading form (suc room) 8 i (linked (plain_head x) (ls, r.1)) j) (t.means (a.arrows) refl) (go (t.text) (t.keeping) (t.flat) (t.kinds) (t.spans))
     where
       go : (m : Links) → links_keep form m → links_depth m ≤ room → last_kind (x.kind) m ≡ r.1 → Spans (links_tokens m) a j → Reading form (suc room) 8 i (linked (plain_head x) (links_tree (a.arrows) m, r.1)) j
       go No_link ke d k sp =
@@ -139,10 +140,9 @@ module _ (form : Form) (room : ℕ) (inner : Nested) (nested_sound : (i : Input)
           let c1 = v.spans.count in
           let c2 = counted (framed v.text) (link_tokens y []) in
           let f = v.flat in
-          let spelt = ap (tokens v.text) sp.spelt ∙ v.spans.spelt in
           record {
             text = Postfix v.text y others;
-            keeping = (v.binding, not_known v.text y others (j.tokens) (ap known_ahead spelt ∙ u), v.keeping, ke.0, ke.1);
+            keeping = (v.binding, u y others (ap (tokens v.text) sp.spelt ∙ v.spans.spelt), v.keeping, ke.0, ke.1);
             binding = refl;
             flat = deep_enough (depth v.text) (link_depth y) (links_depth others) f d;
             means = λ n q.
@@ -156,18 +156,13 @@ module _ (form : Form) (room : ℕ) (inner : Nested) (nested_sound : (i : Input)
           deep_enough : (p q r : ℕ) → p < suc room → max q r ≤ room → max p (max q r) < suc room
           deep_enough p q r f d = omega (arith, f, d)
 
-  abbrev Plain_head_read : Input → Head → Input → Type 0
-  Plain_head_read i h a = (x : Read) × (plain_head x ≡ h) × Reading form (suc room) 9 i x a
+  -- a head: with whatever links that are read after it, it is a postfix form
+  abbrev pub Head_read : Input → Head → Input → Type 0
+  Head_read i h a = (r : List Tree_link × Kind) (j : Input) → Links_run form room h.kind h.links a r j → Reading form (suc room) 8 i (linked h r) j
 
-  plain_heads : (atom_sound : (i : Input) → Sound (Reading form (suc room) 9 i) (atom form room inner i)) → (i : Input) → known_ahead i.tokens ≡ None → Sound (Plain_head_read i) (head form room inner i)
-  unfolding head
-  plain_heads atom_sound i u = rw u (sound_then (atom_sound i) (λ x a v. read (x, refl, v)))
+  pub atom_head : (i a : Input) (x : Read) → known_ahead i.tokens ≡ None → Reading form (suc room) 9 i x a → Head_read i (plain_head x) a
+  atom_head i a x u v = λ r j t. alone_or_linked i a j x r v (λ y more q. not_known v.text y more j.tokens (ap known_ahead q ∙ u)) t
 
-  pub postfix_unknown : (atom_sound : (i : Input) → Sound (Reading form (suc room) 9 i) (atom form room inner i)) → (i : Input) → known_ahead i.tokens ≡ None → Sound (Reading form (suc room) 8 i) (postfix form room inner i)
+  pub postfix_sound : ((i : Input) → Sound (Head_read i) (head form room inner i)) → (i : Input) → Sound (Reading form (suc room) 8 i) (postfix form room inner i)
   unfolding postfix links
-  postfix_unknown atom_sound i u = sound_then (plain_heads atom_sound i u) (λ h a v.
-      implied_by (v.0) h v.1 a v.2)
-    where
-      implied_by : (x : Read) (h : Head) → plain_head x ≡ h → (a : Input) → Reading form (suc room) 9 i x a → Sound (Reading form (suc room) 8 i) (and_then (links_from form room inner (length a.tokens) (h.kind) (h.links) a) (λ xs. pure (linked h xs)))
-      implied_by x h q a v = subst (λ h. Sound (Reading form (suc room) 8 i) (and_then (links_from form room inner (length a.tokens) (h.kind) (h.links) a) (λ xs. pure (linked h xs)))) q
-          (sound_then (links_from_sound (length a.tokens) (x.kind) [] a) (λ r j t. read (alone_or_linked i a j x r u v t)))
+  postfix_sound head_sound i = sound_then (head_sound i) (λ h a c. sound_then (links_from_sound (length a.tokens) h.kind h.links a) (λ r j t. read (c r j t)))
