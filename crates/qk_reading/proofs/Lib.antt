@@ -16,6 +16,8 @@ mod OneModule
 mod Sound
 mod SoundLists
 mod SoundLevels
+mod SoundElements
+mod SoundSteps
 mod SoundAtoms
 mod SoundLinks
 mod SoundCalls

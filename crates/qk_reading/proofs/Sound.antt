@@ -1,7 +1,6 @@
 -- What is read is written by the rules: the steps, the loops, and the lists that hold expressions.
--- (A beginning: the forms above these are still to be done in this way.)
 use Rattle.std.proofs.Common.{◌≡◌, refl, sym, ◌∙◌, ap, subst, arith, append_assoc, append-nil}
-use Rattle.std.specs.Prelude.{ℕ, zero, suc, ◌+◌, ◌-◌, ◌≤◌, ◌<◌, max, Bool, true, false, List, [], ◌∷◌, ◌++◌, length, Ok, Err, codes}
+use Rattle.std.specs.Prelude.{ℕ, zero, suc, ◌+◌, ◌-◌, ◌≤◌, ◌<◌, max, Bool, true, false, List, [], ◌∷◌, ◌++◌, length, Option, Some, None, Ok, Err, codes}
 use Rattle.qk_ast.specs.declared.Form.{Form}
 use Rattle.qk_ast.specs.declared.Expr.{Expr}
 use Rattle.qk_ast.specs.Characters.{Characters}
@@ -11,7 +10,7 @@ use Rattle.qk_ast.specs.Spelling.{Writing, ◌⨾◌, one, name as name_of, sign
 use Rattle.qk_ast.specs.Depth.{inside, depth, arguments_depth}
 use Rattle.qk_ast.specs.Tree.{arrows, tree, arguments_tree}
 use Rattle.qk_ast.specs.Rules.{keeps, arguments_keep, binds}
-use Rattle.qk_reading.specs.Input.{Input, at, Outcome, Reader, and_then, Nested, Read, Mark, Sign, Word, Given, Start, token_of, first_is, rest, advance, sees, after, expect, name_that, enter, separated_from, separated, collected_from, collected}
+use Rattle.qk_reading.specs.Input.{Input, at, Outcome, Reader, and_then, Nested, Read, Mark, Sign, Word, Given, Start, token_of, first_is, rest, advance, sees, after, expect, name_that, enter, separated_from, separated, collected_from, collected, many_from, many, pure, maybe}
 use Rattle.qk_reading.specs.Reader.{nested, args, bracketed}
 use Rattle.qk_ast.proofs.FrontToken.{same_is}
 use Rattle.qk_reading.proofs.Framed.{Framed, framed, comma_framed}
@@ -123,6 +122,34 @@ pub collected_sound : {A : Type 0} (E : List A → Input → A → Input → Typ
     → ((so_far : List A) (i : Input) → Sound (E so_far i) (element so_far i)) → (i : Input) → Sound (Ran closing E [] i) (collected closing element i)
 unfolding collected
 collected_sound E closing element h i = collected_from_sound E closing element h (length i.tokens) [] i
+
+-- ---- as long as there is one more
+
+abbrev pub Maybe_read : {A : Type 0} → (Input → A → Input → Type 0) → Input → Option A → Input → Type 0
+Maybe_read E i None j = i ≡ j
+Maybe_read E i (Some x) j = E i x j
+
+pub data Many {A : Type 0} (E : Input → A → Input → Type 0) : Input → List A → Input → Type 0 where
+  no_more : {i : Input} → Many E i [] i
+  one_more : {i j k : Input} {x : A} {xs : List A} → E i x j → Many E j xs k → Many E i (x ∷ xs) k
+
+pub record Many_read {A : Type 0} (E : Input → A → Input → Type 0) (so_far : List A) (i : Input) (ys : List A) (j : Input) : Type 0 where
+  pub others : List A
+  pub parts : so_far ++ others ≡ ys
+  pub run : Many E i others j
+
+pub many_from_sound : {A : Type 0} (E : Input → A → Input → Type 0) (step : Reader (Option A)) → ((i : Input) → Sound (Maybe_read E i) (step i)) → (n : ℕ) (so_far : List A) (i : Input)
+    → Sound (Many_read E so_far i) (many_from step n so_far i)
+unfolding many_from
+many_from_sound E step h zero so_far i = read (record { others = []; parts = append-nil so_far; run = no_more })
+many_from_sound E step h (suc n) so_far i = sound_then (h i) (λ o j r. elim o as (λ o. Maybe_read E i o j → Sound (Many_read E so_far i) (maybe o (pure so_far) (λ x. many_from step n (so_far ++ x ∷ [])) j)) [
+  | None ↦ λ r. read (record { others = []; parts = append-nil so_far; run = subst (λ j. Many E i [] j) r no_more })
+  | Some x ↦ λ r. implied (many_from_sound E step h n (so_far ++ x ∷ []) j) (λ ys k t. record { others = x ∷ t.others; parts = sym (append_assoc so_far (x ∷ []) t.others) ∙ t.parts; run = one_more r t.run })
+] r)
+
+pub many_sound : {A : Type 0} (E : Input → A → Input → Type 0) (step : Reader (Option A)) → ((i : Input) → Sound (Maybe_read E i) (step i)) → (i : Input) → Sound (Many_read E [] i) (many step i)
+unfolding many
+many_sound E step h i = many_from_sound E step h (length i.tokens) [] i
 
 -- ---- expressions between commas
 

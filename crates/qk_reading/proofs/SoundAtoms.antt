@@ -6,11 +6,11 @@ use Rattle.qk_ast.specs.declared.Expr.{Expr}
 use Rattle.qk_ast.specs.declared.Expr.TheVariants as e
 use Rattle.qk_ast.specs.Characters.{Characters, same}
 use Rattle.qk_ast.specs.Tokens.{Token, Edge, Piece}
-use Rattle.qk_ast.specs.Grammar.{Expression, Undefined, Null, Truth, Number, Quoted, Named, Whole, Holed, Bracketed, Listed, Recorded, Markup, Holes, Last_part, Part_hole, Element}
-use Rattle.qk_ast.specs.Spelling.{◌⨾◌, one, sign, tokens, holes_tokens, element_tokens}
-use Rattle.qk_ast.specs.Depth.{inside, depth, holes_depth, element_depth}
-use Rattle.qk_ast.specs.Tree.{arrows, value, tree, holes_tree, parts_tree, element_tree}
-use Rattle.qk_ast.specs.Rules.{keeps, holes_keep, element_keeps}
+use Rattle.qk_ast.specs.Grammar.{Expression, Undefined, Null, Truth, Number, Quoted, Named, Whole, Holed, Bracketed, Listed, Recorded, Markup, Holes, Last_part, Part_hole}
+use Rattle.qk_ast.specs.Spelling.{◌⨾◌, one, sign, tokens, holes_tokens}
+use Rattle.qk_ast.specs.Depth.{inside, depth, holes_depth}
+use Rattle.qk_ast.specs.Tree.{arrows, value, tree, holes_tree, parts_tree}
+use Rattle.qk_ast.specs.Rules.{keeps, holes_keep}
 use Rattle.qk_reading.specs.Input.{Input, at, Nested, Read, pure}
 use Rattle.qk_reading.specs.Reader.{nested, part, holes_from, holes, atom, atomic, bracket_by, start_by}
 use Rattle.qk_ast.proofs.FrontToken.{same_is}
@@ -18,6 +18,7 @@ use Rattle.qk_reading.proofs.Framed.{one_framed, framed, arguments_framed, field
 use Rattle.qk_reading.proofs.Follow.{by_bool}
 use Rattle.qk_reading.proofs.Sound.{Sound, read, refused, sound_then, implied, Spans, spans_then, Reading, Valued, max_le, args_sound, bracketed_sound}
 use Rattle.qk_reading.proofs.SoundLists.{fields_sound}
+use Rattle.qk_reading.proofs.SoundElements.{Element_read}
 
 module _ (form : Form) (room : ℕ) (inner : Nested) (nested_sound : (i : Input) → Sound (Valued form room i) (nested form room inner i)) where
   -- ---- templates
@@ -84,8 +85,7 @@ module _ (form : Form) (room : ℕ) (inner : Nested) (nested_sound : (i : Input)
 
   -- ---- atoms
 
-  module _ (start_sound : (a : Characters) (ts : List Token) (n : ℕ) → Sound (λ x j. (el : Element) × element_keeps form el × (element_depth el ≤ room) × ((m : ℕ) → m ≡ n → e.Jsx (element_tree m el) ≡ x)
-      × Spans (element_tokens el) (at (Token.Begin a ∷ ts) n) j) (start_by form room inner a (at (Token.Begin a ∷ ts) n))) where
+  module _ (start_sound : (a : Characters) (ts : List Token) (n : ℕ) → Sound (Element_read form room a (at ts n)) (start_by form room inner a (at (Token.Begin a ∷ ts) n))) where
     abbrev Atom_read : Input → Read → Input → Type 0
     Atom_read i x j = Reading form (suc room) 9 i x j
 
@@ -166,8 +166,8 @@ module _ (form : Form) (room : ℕ) (inner : Nested) (nested_sound : (i : Input)
     atom_at (Token.Template Edge.Backquote ps Edge.Hole ∷ ts) n = sound_then (holes_read ps ts n) (λ x j r. read r)
     atom_at (Token.Punct a ∷ ts) n = sound_then (bracket_read a ts n) (λ x j r. read r)
     atom_at (Token.Begin a ∷ ts) n = sound_then (start_sound a ts n) (λ x j r.
-        let f = r.2 in
-        read (record { text = Markup (r.0); keeping = r.1; binding = refl; flat = omega (arith, f); means = r.3; kinds = refl; spans = r.4 }))
+        let f = r.flat in
+        read (record { text = Markup r.text; keeping = r.keeping; binding = refl; flat = omega (arith, f); means = r.means; kinds = refl; spans = r.spans }))
     atom_at (t ∷ ts) n = refused
 
     pub atom_sound : (i : Input) → Sound (Atom_read i) (atom form room inner i)

@@ -26,37 +26,9 @@ use Rattle.qk_reading.proofs.Framed.{Framed, framed, bin_framed, un_framed, para
 use Rattle.qk_reading.proofs.Follow.{by_bool, clash, operand_above}
 use Rattle.qk_reading.proofs.Counted.{counted, sign_uncounted, tight_kind}
 use Rattle.qk_reading.proofs.Atoms.{binds_le, le_binds}
-use Rattle.qk_reading.proofs.Sound.{Sound, read, refused, sound_then, implied, Spans, spans_then, by_sees, expect_sound, Reading, Valued, max_le, mark_seen}
+use Rattle.qk_reading.proofs.Sound.{Maybe_read, Many, no_more, one_more, many_sound, Sound, read, refused, sound_then, implied, Spans, spans_then, by_sees, expect_sound, Reading, Valued, max_le, mark_seen}
 use Rattle.qk_reading.proofs.SoundLists.{Parameters_read, params_sound}
 use Rattle.qk_reading.proofs.Patterns.{parameters_uncounted}
-
--- ---- a loop as long as there is one more
-
-abbrev Maybe_read : {A : Type 0} → (Input → A → Input → Type 0) → Input → Option A → Input → Type 0
-Maybe_read E i None j = i ≡ j
-Maybe_read E i (Some x) j = E i x j
-
-pub data Many {A : Type 0} (E : Input → A → Input → Type 0) : Input → List A → Input → Type 0 where
-  none : {i : Input} → Many E i [] i
-  more : {i j k : Input} {x : A} {xs : List A} → E i x j → Many E j xs k → Many E i (x ∷ xs) k
-
-pub record Many_read {A : Type 0} (E : Input → A → Input → Type 0) (so_far : List A) (i : Input) (ys : List A) (j : Input) : Type 0 where
-  pub others : List A
-  pub parts : so_far ++ others ≡ ys
-  pub run : Many E i others j
-
-pub many_from_sound : {A : Type 0} (E : Input → A → Input → Type 0) (step : Reader (Option A)) → ((i : Input) → Sound (Maybe_read E i) (step i)) → (n : ℕ) (so_far : List A) (i : Input)
-    → Sound (Many_read E so_far i) (many_from step n so_far i)
-unfolding many_from
-many_from_sound E step h zero so_far i = read (record { others = []; parts = append-nil so_far; run = none })
-many_from_sound E step h (suc n) so_far i = sound_then (h i) (λ o j r. elim o as (λ o. Maybe_read E i o j → Sound (Many_read E so_far i) (maybe o (pure so_far) (λ x. many_from step n (so_far ++ x ∷ [])) j)) [
-  | None ↦ λ r. read (record { others = []; parts = append-nil so_far; run = subst (λ j. Many E i [] j) r none })
-  | Some x ↦ λ r. implied (many_from_sound E step h n (so_far ++ x ∷ []) j) (λ ys k t. record { others = x ∷ t.others; parts = sym (append_assoc so_far (x ∷ []) t.others) ∙ t.parts; run = more r t.run })
-] r)
-
-pub many_sound : {A : Type 0} (E : Input → A → Input → Type 0) (step : Reader (Option A)) → ((i : Input) → Sound (Maybe_read E i) (step i)) → (i : Input) → Sound (Many_read E [] i) (many step i)
-unfolding many
-many_sound E step h i = many_from_sound E step h (length i.tokens) [] i
 
 -- ---- operators
 
@@ -160,6 +132,14 @@ second : (p q : Bool) → (p && q) ≡ true → q ≡ true
 second true q h = h
 second false q h = clash {b = false} h refl
 
+-- what an arrow's body is read as
+pub record Body_read (form : Form) (room : ℕ) (i : Input) (x : Tree_body) (j : Input) : Type 0 where
+  pub text : Body
+  pub keeping : body_keeps form text
+  pub flat : inside (body_depth text) ≤ room
+  pub means : (n : ℕ) → n ≡ i.arrows → body_tree n text ≡ x
+  pub spans : Spans (body_tokens text) i j
+
 module _ (form : Form) (room : ℕ) (inner : Nested) where
   pub record Operand_read (level : Level) (i : Input) (y : Tree_operand) (j : Input) : Type 0 where
     pub text : Expression
@@ -181,8 +161,8 @@ module _ (form : Form) (room : ℕ) (inner : Nested) where
   bin_uncounted op = sign_uncounted op []
 
   operands_of : (level : Level) {i j : Input} {ys : List Tree_operand} → Many (Operand_read level) i ys j → Operands_read level i ys j
-  operands_of level none = record { text = No_operand; keeping = tt; flat = omega arith; means = λ n e. refl; spans = record { spelt = refl; count = omega arith } }
-  operands_of level (more {x = x} v r) =
+  operands_of level no_more = record { text = No_operand; keeping = tt; flat = omega arith; means = λ n e. refl; spans = record { spelt = refl; count = omega arith } }
+  operands_of level (one_more {x = x} v r) =
       let t = operands_of level r in
       let c1 = v.spans.count in
       let c2 = counted (bin_framed x.op) (tokens v.text []) in
@@ -358,19 +338,12 @@ module _ (form : Form) (room : ℕ) (inner : Nested) where
 
     -- ---- arrows
 
-    pub record Body_read (i : Input) (x : Tree_body) (j : Input) : Type 0 where
-      pub text : Body
-      pub keeping : body_keeps form text
-      pub flat : inside (body_depth text) ≤ room
-      pub means : (n : ℕ) → n ≡ i.arrows → body_tree n text ≡ x
-      pub spans : Spans (body_tokens text) i j
-
     number_sound : (i : Input) → Sound (λ n j. Spans (sign (codes "=>")) i j × (n ≡ i.arrows) × (j.arrows ≡ n + 1)) (number i)
     unfolding number sees
     number_sound i = by_bool (first_is (Sign (codes "=>")) i.tokens) (λ h. rw h (read (record { spelt = mark_seen (Sign (codes "=>")) i.tokens h; count = refl }, refl, refl))) (λ h. rw h refused)
 
-    module _ (body_sound : (i : Input) → Sound (Body_read i) (inner.body i)) where
-      arrow_read : (i a b k : Input) (ps : List Pattern) (n : ℕ) (x : Tree_body) → Parameters_read room i ps a → Spans (sign (codes "=>")) a b → n ≡ a.arrows → b.arrows ≡ n + 1 → Body_read b x k
+    module _ (body_sound : (i : Input) → Sound (Body_read form room i) (inner.body i)) where
+      arrow_read : (i a b k : Input) (ps : List Pattern) (n : ℕ) (x : Tree_body) → Parameters_read room i ps a → Spans (sign (codes "=>")) a b → n ≡ a.arrows → b.arrows ≡ n + 1 → Body_read form room b x k
           → Reading form (suc room) 0 i (reading (e.Arrow (record { place = n; params = ps; body = x })) Loose) k
       arrow_read i a b k ps n x v s p q w =
           let c1 = v.spans.count in
