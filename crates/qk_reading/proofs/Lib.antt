@@ -18,6 +18,8 @@ mod SoundLists
 mod SoundLevels
 mod SoundElements
 mod SoundSteps
+mod SoundStatements
+mod SoundBlocks
 mod SoundAtoms
 mod SoundLinks
 mod SoundCalls

@@ -3,10 +3,10 @@ use Rattle.std.proofs.Common.{◌≡◌, refl, sym, ◌∙◌, ap, subst, arith,
 use Rattle.std.specs.Prelude.{ℕ, zero, suc, ◌+◌, ◌-◌, ◌≤◌, ◌<◌, max, Bool, true, false, List, [], ◌∷◌, ◌++◌, length, Option, Some, None, Ok, Err, codes}
 use Rattle.qk_ast.specs.declared.Form.{Form}
 use Rattle.qk_ast.specs.declared.Expr.{Expr}
-use Rattle.qk_ast.specs.Characters.{Characters}
+use Rattle.qk_ast.specs.Characters.{Characters, same}
 use Rattle.qk_ast.specs.Tokens.{Token}
 use Rattle.qk_ast.specs.Grammar.{Expression, Arguments, No_argument, Only, Comma}
-use Rattle.qk_ast.specs.Spelling.{Writing, ◌⨾◌, one, name as name_of, sign, tokens, arguments_tokens}
+use Rattle.qk_ast.specs.Spelling.{Writing, ◌⨾◌, one, name as name_of, sign, word, tokens, arguments_tokens}
 use Rattle.qk_ast.specs.Depth.{inside, depth, arguments_depth}
 use Rattle.qk_ast.specs.Tree.{arrows, tree, arguments_tree}
 use Rattle.qk_ast.specs.Rules.{keeps, arguments_keep, binds}
@@ -62,6 +62,13 @@ by_sees m i u seen unseen = by_bool (first_is m i.tokens)
 pub expect_sound : (m : Mark) (i : Input) → arrows (one (token_of m)) ≡ 0 → Sound (λ _ j. Spans (one (token_of m)) i j) (expect m i)
 unfolding expect
 expect_sound m i u = by_sees m i u (λ s a p. rw s (read p)) (λ s a. rw s refused)
+
+-- one token that stands here, given by its text
+pub sign_here : (s a : Characters) (ts : List Token) (n : ℕ) → same a s ≡ true → arrows (sign s) ≡ 0 → Spans (sign s) (at (Token.Punct a ∷ ts) n) (at ts n)
+sign_here s a ts n h u = record { spelt = ap (λ c. Token.Punct c ∷ ts) (sym (same_is a s h)); count = omega (arith, u) }
+
+pub word_here : (w a : Characters) (ts : List Token) (n : ℕ) → same a w ≡ true → Spans (word w) (at (Token.Reserved a ∷ ts) n) (at ts n)
+word_here w a ts n h = record { spelt = ap (λ c. Token.Reserved c ∷ ts) (sym (same_is a w h)); count = omega arith }
 
 name_at : (passes : Characters → Bool) (ts : List Token) (n : ℕ) → Sound (λ a j. Spans (name_of a) (at ts n) j × (passes a ≡ true)) (name_that passes (at ts n))
 unfolding name_that

@@ -16,7 +16,7 @@ use Rattle.qk_reading.specs.Reader.{nested, part, holes_from, holes, atom, atomi
 use Rattle.qk_ast.proofs.FrontToken.{same_is}
 use Rattle.qk_reading.proofs.Framed.{one_framed, framed, arguments_framed, fields_framed, sign_framed}
 use Rattle.qk_reading.proofs.Follow.{by_bool}
-use Rattle.qk_reading.proofs.Sound.{Sound, read, refused, sound_then, implied, Spans, spans_then, Reading, Valued, max_le, args_sound, bracketed_sound}
+use Rattle.qk_reading.proofs.Sound.{sign_here, word_here, Sound, read, refused, sound_then, implied, Spans, spans_then, Reading, Valued, max_le, args_sound, bracketed_sound}
 use Rattle.qk_reading.proofs.SoundLists.{fields_sound}
 use Rattle.qk_reading.proofs.SoundElements.{Element_read}
 
@@ -89,19 +89,15 @@ module _ (form : Form) (room : ℕ) (inner : Nested) (nested_sound : (i : Input)
     abbrev Atom_read : Input → Read → Input → Type 0
     Atom_read i x j = Reading form (suc room) 9 i x j
 
-    opened : (s a : Characters) (ts : List Token) (n : ℕ) → same a s ≡ true → arrows (sign s) ≡ 0 → Spans (sign s) (at (Token.Punct a ∷ ts) n) (at ts n)
-    opened s a ts n h u = record { spelt = ap (λ c. Token.Punct c ∷ ts) (sym (same_is a s h)); count = omega (arith, u) }
 
-    worded : (w a : Characters) (ts : List Token) (n : ℕ) → same a w ≡ true → Spans (one (Token.Reserved w)) (at (Token.Reserved a ∷ ts) n) (at ts n)
-    worded w a ts n h = record { spelt = ap (λ c. Token.Reserved c ∷ ts) (sym (same_is a w h)); count = omega arith }
 
     word_read : (a : Characters) (ts : List Token) (n : ℕ) → Sound (Atom_read (at (Token.Reserved a ∷ ts) n)) (atom form room inner (at (Token.Reserved a ∷ ts) n))
     unfolding atom
     word_read a ts n =
-        by_bool (same a (codes "undefined")) (λ h. let sp = worded (codes "undefined") a ts n h in rw h (read {j = at ts n} (record { text = Undefined; keeping = tt; binding = refl; flat = omega arith; means = λ k q. refl; kinds = refl; spans = sp }))) (λ h1.
-        by_bool (same a (codes "null")) (λ h. let sp = worded (codes "null") a ts n h in rw (h1, h) (read {j = at ts n} (record { text = Null; keeping = tt; binding = refl; flat = omega arith; means = λ k q. refl; kinds = refl; spans = sp }))) (λ h2.
-        by_bool (same a (codes "true")) (λ h. let sp = worded (codes "true") a ts n h in rw (h1, h2, h) (read {j = at ts n} (record { text = Truth true; keeping = tt; binding = refl; flat = omega arith; means = λ k q. refl; kinds = refl; spans = sp }))) (λ h3.
-        by_bool (same a (codes "false")) (λ h. let sp = worded (codes "false") a ts n h in rw (h1, h2, h3, h) (read {j = at ts n} (record { text = Truth false; keeping = tt; binding = refl; flat = omega arith; means = λ k q. refl; kinds = refl; spans = sp }))) (λ h4.
+        by_bool (same a (codes "undefined")) (λ h. let sp = word_here (codes "undefined") a ts n h in rw h (read {j = at ts n} (record { text = Undefined; keeping = tt; binding = refl; flat = omega arith; means = λ k q. refl; kinds = refl; spans = sp }))) (λ h1.
+        by_bool (same a (codes "null")) (λ h. let sp = word_here (codes "null") a ts n h in rw (h1, h) (read {j = at ts n} (record { text = Null; keeping = tt; binding = refl; flat = omega arith; means = λ k q. refl; kinds = refl; spans = sp }))) (λ h2.
+        by_bool (same a (codes "true")) (λ h. let sp = word_here (codes "true") a ts n h in rw (h1, h2, h) (read {j = at ts n} (record { text = Truth true; keeping = tt; binding = refl; flat = omega arith; means = λ k q. refl; kinds = refl; spans = sp }))) (λ h3.
+        by_bool (same a (codes "false")) (λ h. let sp = word_here (codes "false") a ts n h in rw (h1, h2, h3, h) (read {j = at ts n} (record { text = Truth false; keeping = tt; binding = refl; flat = omega arith; means = λ k q. refl; kinds = refl; spans = sp }))) (λ h4.
         rw (h1, h2, h3, h4) refused))))
 
     holes_read : (ps : List Piece) (ts : List Token) (n : ℕ) → Sound (λ x j. Atom_read (at (Token.Template Edge.Backquote ps Edge.Hole ∷ ts) n) (atomic x) j) (holes form room inner (value ps) (at ts n))
@@ -125,11 +121,11 @@ module _ (form : Form) (room : ℕ) (inner : Nested) (nested_sound : (i : Input)
 
     bracket_read : (a : Characters) (ts : List Token) (n : ℕ) → Sound (λ x j. Atom_read (at (Token.Punct a ∷ ts) n) (atomic x) j) (bracket_by form room inner a (at (Token.Punct a ∷ ts) n))
     bracket_read a ts n =
-        by_bool (same a (codes "(")) (λ h. let sp = opened (codes "(") a ts n h refl in rw h (implied (bracketed_sound form room inner nested_sound (at ts n)) (λ x j r.
+        by_bool (same a (codes "(")) (λ h. let sp = sign_here (codes "(") a ts n h refl in rw h (implied (bracketed_sound form room inner nested_sound (at ts n)) (λ x j r.
         let v = r.1 in
         let f = v.flat in
         record { text = Bracketed v.text; keeping = v.keeping; binding = refl; flat = omega (arith, f); means = v.means; kinds = refl; spans = spans_then (sign_framed (codes "(")) sp (spans_then (framed v.text) v.spans r.2) }))) (λ h1.
-        by_bool (same a (codes "[")) (λ h. let sp = opened (codes "[") a ts n h refl in rw (h1, h) (sound_then (args_sound form room inner nested_sound (codes "]") (at ts n) refl) (λ xs j r.
+        by_bool (same a (codes "[")) (λ h. let sp = sign_here (codes "[") a ts n h refl in rw (h1, h) (sound_then (args_sound form room inner nested_sound (codes "]") (at ts n) refl) (λ xs j r.
         let v = r.1 in
         let f = v.flat in
         let g = r.3 in
@@ -142,7 +138,7 @@ module _ (form : Form) (room : ℕ) (inner : Nested) (nested_sound : (i : Input)
           kinds = refl;
           spans = spans_then (sign_framed (codes "[")) sp (spans_then (arguments_framed v.text) v.spans r.2);
         })))) (λ h2.
-        by_bool (same a (codes "{")) (λ h. let sp = opened (codes "{") a ts n h refl in rw (h1, h2, h) (sound_then (fields_sound form room inner nested_sound (at ts n)) (λ xs j r.
+        by_bool (same a (codes "{")) (λ h. let sp = sign_here (codes "{") a ts n h refl in rw (h1, h2, h) (sound_then (fields_sound form room inner nested_sound (at ts n)) (λ xs j r.
         let v = r.1 in
         let f = v.flat in
         read (record {

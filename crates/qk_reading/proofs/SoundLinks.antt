@@ -21,7 +21,7 @@ use Rattle.qk_reading.proofs.Framed.{framed, link_framed, arguments_framed, sign
 use Rattle.qk_reading.proofs.Follow.{by_bool, clash}
 use Rattle.qk_reading.proofs.Counted.{counted, link_kind, last_kind}
 use Rattle.qk_reading.proofs.Atoms.{binds_le, le_binds}
-use Rattle.qk_reading.proofs.Sound.{Sound, read, refused, sound_then, implied, Spans, spans_then, expect_sound, Reading, Valued, max_le, args_sound}
+use Rattle.qk_reading.proofs.Sound.{sign_here, Sound, read, refused, sound_then, implied, Spans, spans_then, expect_sound, Reading, Valued, max_le, args_sound}
 
 -- no known call begins there, so what is written there is none
 not_known : (x : Expression) (y : Link) (more : Links) (ts : List Token) → known_ahead (tokens x (link_tokens y (links_tokens more ts))) ≡ None → reads_as_known x y more ≡ false
@@ -71,18 +71,16 @@ module _ (form : Form) (room : ℕ) (inner : Nested) (nested_sound : (i : Input)
   word_at (Token.Reserved a ∷ ts) n = let sp : Spans (word_tokens (Taken a)) (at (Token.Reserved a ∷ ts) n) (at ts n) = record { spelt = refl; count = omega arith } in read {j = at ts n} (Taken a, refl, sp)
   word_at (t ∷ ts) n = refused
 
-  opened : (s a : Characters) (ts : List Token) (n : ℕ) → same a s ≡ true → arrows (sign s) ≡ 0 → Spans (sign s) (at (Token.Punct a ∷ ts) n) (at ts n)
-  opened s a ts n h u = record { spelt = ap (λ c. Token.Punct c ∷ ts) (sym (same_is a s h)); count = omega (arith, u) }
 
   link_at : (ts : List Token) (n : ℕ) → Sound (Maybe_link (at ts n)) (link form room inner (at ts n))
   unfolding link
   link_at [] n = read refl
   link_at (Token.Punct a ∷ ts) n =
-      by_bool (same a (codes ".")) (λ h. let sp = opened (codes ".") a ts n h refl in rw h (sound_then (word_at ts n) (λ w j r.
+      by_bool (same a (codes ".")) (λ h. let sp = sign_here (codes ".") a ts n h refl in rw h (sound_then (word_at ts n) (λ w j r.
       read (record { text = Dot (r.0); keeping = tt; flat = omega arith; means = λ k q. ap l.Prop r.1; kinds = refl; spans = spans_then (sign_framed (codes ".")) sp r.2 })))) (λ h1.
-      by_bool (same a (codes "[")) (λ h. let sp = opened (codes "[") a ts n h refl in rw (h1, h) (sound_then (nested_sound (at ts n)) (λ x j v. sound_then (expect_sound (Sign (codes "]")) j refl) (λ _ k s.
+      by_bool (same a (codes "[")) (λ h. let sp = sign_here (codes "[") a ts n h refl in rw (h1, h) (sound_then (nested_sound (at ts n)) (λ x j v. sound_then (expect_sound (Sign (codes "]")) j refl) (λ _ k s.
       read (record { text = Index v.text; keeping = v.keeping; flat = v.flat; means = λ k q. ap l.Index (v.means k q); kinds = refl; spans = spans_then (sign_framed (codes "[")) sp (spans_then (framed v.text) v.spans s) }))))) (λ h2.
-      by_bool (same a (codes "(")) (λ h. let sp = opened (codes "(") a ts n h refl in rw (h1, h2, h) (sound_then (args_sound form room inner nested_sound (codes ")") (at ts n) refl) (λ xs j r.
+      by_bool (same a (codes "(")) (λ h. let sp = sign_here (codes "(") a ts n h refl in rw (h1, h2, h) (sound_then (args_sound form room inner nested_sound (codes ")") (at ts n) refl) (λ xs j r.
       let v = r.1 in
       let f = v.flat in
       let g = r.3 in
