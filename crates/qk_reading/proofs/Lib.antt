@@ -23,3 +23,5 @@ mod SoundBlocks
 mod SoundAtoms
 mod SoundLinks
 mod SoundCalls
+mod SoundNesting
+mod SoundModules

@@ -65,7 +65,7 @@ module _ (D : Type 0) (form : Form) where
   item_reach true a x h room n m ts d q = reach_then _ (reach_then _ (h room 0 n m (Token.Punct (codes ";") ∷ ts) d (omega arith) (le_binds 0 x (omega arith)) q (omega arith)) reached) reached
   item_reach false a x h room n m ts d q = reach_then _ (reach_then _ (h room 0 n m (Token.Punct (codes ";") ∷ ts) d (omega arith) (le_binds 0 x (omega arith)) q (omega arith)) reached) reached
 
-  item_longer : (b : Bool) (a : Characters) (x : Expression) (ts : List Token) → length ts < length (item_tokens (record { exported = b; name = a; value = x }) ts)
+  pub item_longer : (b : Bool) (a : Characters) (x : Expression) (ts : List Token) → length ts < length (item_tokens (record { exported = b; name = a; value = x }) ts)
   item_longer true a x ts = let c = longer x (Token.Punct (codes ";") ∷ ts) in omega (arith, c)
   item_longer false a x ts = let c = longer x (Token.Punct (codes ";") ∷ ts) in omega (arith, c)
 

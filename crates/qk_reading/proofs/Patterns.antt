@@ -17,7 +17,7 @@ use Rattle.qk_reading.proofs.Lists.{expect_reach}
 
 -- ---- no arrows in them
 
-names_uncounted : (x : Names) (ts : List Token) → arrow_signs (names_tokens x ts) ≡ arrow_signs ts
+pub names_uncounted : (x : Names) (ts : List Token) → arrow_signs (names_tokens x ts) ≡ arrow_signs ts
 names_uncounted (Last_name a) ts = refl
 names_uncounted (Last_comma a) ts = refl
 names_uncounted (Next_name a more) ts = names_uncounted more ts

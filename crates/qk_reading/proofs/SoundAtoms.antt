@@ -89,8 +89,6 @@ module _ (form : Form) (room : ℕ) (inner : Nested) (nested_sound : (i : Input)
     abbrev Atom_read : Input → Read → Input → Type 0
     Atom_read i x j = Reading form (suc room) 9 i x j
 
-
-
     word_read : (a : Characters) (ts : List Token) (n : ℕ) → Sound (Atom_read (at (Token.Reserved a ∷ ts) n)) (atom form room inner (at (Token.Reserved a ∷ ts) n))
     unfolding atom
     word_read a ts n =

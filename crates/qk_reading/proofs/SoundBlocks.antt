@@ -30,6 +30,10 @@ no_brace_word : (a : Characters) (ts : List Token) (n : ℕ) → sees (Sign (cod
 unfolding sees
 no_brace_word a ts n = refl
 
+no_declaration : (i : Input) → sees (Sign (codes "{")) i ≡ false → (first_is (Word (codes "const")) i.tokens || first_is (Word (codes "let")) i.tokens) ≡ false → declares i.tokens ≡ false
+unfolding sees
+no_declaration i h k = rw (h, k) refl
+
 -- an expression in brackets
 pub record Condition_read (form : Form) (room : ℕ) (i : Input) (x : Expr) (j : Input) : Type 0 where
   pub text : Expression
@@ -74,9 +78,14 @@ module _ (form : Form) (room : ℕ) (inner : Nested) (nested_sound : (i : Input)
   unfolding held
   held_sound looped i = by_sees (Sign (codes "{")) i refl
       (λ s q p. rw (s, q) (implied (braced looped (advance i)) (λ xs j v.
-        let c = p.count in
-        record { text = Block_part v.text; keeping = v.keeping; flat = v.flat; means = λ n t. v.means n (omega (arith, t, c)); spans = spans_then (sign_framed (codes "{")) p v.spans; ends = λ h. clash {b = false} h refl })))
+      let c = p.count in
+      record { text = Block_part v.text; keeping = v.keeping; flat = v.flat; means = λ n t. v.means n (omega (arith, t, c)); spans = spans_then (sign_framed (codes "{")) p v.spans; ends = λ h. clash {b = false} h refl })))
       (λ s q. rw (s, q) (alone looped i s))
+
+  else_read : (looped : Bool) (i j : Input) (xs : List Stmt) → Part_read form room looped i xs j → Else_read form (suc room) looped i xs j
+  else_read looped i j xs p =
+      let f = p.flat in
+      (record { text = p.text; keeping = p.keeping; flat = omega (arith, f); means = p.means; spans = p.spans; ends = p.ends }, omega (arith, f))
 
   -- ---- statements that hold parts, each behind its word
 
@@ -115,7 +124,7 @@ module _ (form : Form) (room : ℕ) (inner : Nested) (nested_sound : (i : Input)
         flat = omega (arith, f1, f2, f3);
         means = λ n t.
             ap₂ (λ (x : Expr) (p : List Stmt × List Stmt). s.If x (p.0) (p.1)) (v.means n (omega (arith, t, c1))) (ap₂ (λ ys zs. (ys, zs)) (y.means (n + arrows (tokens v.text)) (omega (arith, t, c1, c2, c3)))
-              (z.0.means (n + arrows (tokens v.text ⨾ part_tokens y.text)) (omega (arith, t, c1, c2, c3, c4, c5, c6))));
+            (z.0.means (n + arrows (tokens v.text ⨾ part_tokens y.text)) (omega (arith, t, c1, c2, c3, c4, c5, c6))));
         spans = spans_then (reserved_framed (codes "if")) w (spans_then (sign_framed (codes "(") ▹ (framed v.text ▹ sign_framed (codes ")"))) v.spans (spans_then (part_framed y.text) y.spans (spans_then (reserved_framed (codes "else")) e z.0.spans)));
         ends = λ h. z.0.ends h;
         alone = λ h. refl;
@@ -186,8 +195,8 @@ module _ (form : Form) (room : ℕ) (inner : Nested) (nested_sound : (i : Input)
     unfolding constant
     const_sound looped true i a al w = by_bool (sees (Sign (codes "[")) a)
         (λ h. by_bool (is_built form)
-          (λ b. rw (h, b) (scope_sound form room inner whole_sound looped i a b al w h))
-          (λ b. rw (h, b) (declared_sound form room inner whole_sound looped true i a al w)))
+        (λ b. rw (h, b) (scope_sound form room inner whole_sound looped i a b al w h))
+        (λ b. rw (h, b) (declared_sound form room inner whole_sound looped true i a al w)))
         (λ h. rw h (declared_sound form room inner whole_sound looped true i a al w))
     const_sound looped false i a al w = by_bool (sees (Sign (codes "[")) a)
         (λ h. rw h (declared_sound form room inner whole_sound looped false i a al w))
@@ -222,3 +231,70 @@ module _ (form : Form) (room : ℕ) (inner : Nested) (nested_sound : (i : Input)
         by_bool (same a (codes "continue") && looped) (λ h. let p = both (same a (codes "continue")) looped h in rw (h1, h2, h3, h4, h5, h6, h7, h) (continue_sound form room inner whole_sound looped start (at (Token.Reserved a ∷ ts) n) (at ts n) p.1 (word_here (codes "continue") a ts n p.0))) (λ h8.
         by_bool (same a (codes "delete")) (λ h. rw (h1, h2, h3, h4, h5, h6, h7, h8, h) (deleted_sound form room inner whole_sound postfix_sound looped start (at (Token.Reserved a ∷ ts) n) (at ts n) (word_here (codes "delete") a ts n h))) (λ h9.
         rw (h1, h2, h3, h4, h5, h6, h7, h8, h9) (done_sound form room inner whole_sound step_sound looped start (at (Token.Reserved a ∷ ts) n) (no_brace_word a ts n)))))))))))
+
+    statement_at : (looped start : Bool) (ts : List Token) (n : ℕ) → Sound (Statement_read form room looped start (at ts n)) (statement form room inner looped start (at ts n))
+    unfolding statement sees
+    statement_at looped start (Token.Reserved a ∷ ts) n = word_sound looped start a ts n
+    statement_at looped start (Token.Punct a ∷ ts) n = by_bool (same a (codes "{"))
+        (λ h. rw h (sound_then (braced looped (at ts n)) (λ xs j v. read (block_read looped start (at (Token.Punct a ∷ ts) n) (at ts n) j xs (rw h refl) (sign_here (codes "{") a ts n h refl) v))))
+        (λ h. rw h (done_sound form room inner whole_sound step_sound looped start (at (Token.Punct a ∷ ts) n) h))
+    statement_at looped start [] n = done_sound form room inner whole_sound step_sound looped start (at [] n) refl
+    statement_at looped start (t ∷ ts) n = done_sound form room inner whole_sound step_sound looped start (at (t ∷ ts) n) refl
+
+    statement_sound : (looped start : Bool) (i : Input) → Sound (Statement_read form room looped start i) (statement form room inner looped start i)
+    statement_sound looped start i = statement_at looped start i.tokens i.arrows
+
+    -- ---- blocks
+
+    next_statement : (looped start : Bool) (so_far : List Stmt) (i a j : Input) (x : Stmt) (ys : List Stmt) → Statement_read form room looped start i x a → Statements_run form room looped false (so_far ++ x ∷ []) a ys j
+        → Statements_run form room looped start so_far i ys j
+    next_statement looped start so_far i a j x ys v t =
+        let c = v.spans.count in
+        let f = v.flat in
+        let g = t.flat in
+        record {
+          text = Then v.text t.text;
+          keeping = (v.keeping, t.keeping);
+          flat = omega (arith, f, g);
+          means = λ n q.
+              let here : n + arrows (statement_tokens v.text) ≡ a.arrows = omega (arith, q, c) in
+              ap (λ x. so_far ++ x ∷ statements_tree (n + arrows (statement_tokens v.text)) t.text) (v.means n q)
+              ∙ sym (append_assoc so_far (x ∷ []) (statements_tree (n + arrows (statement_tokens v.text)) t.text)) ∙ t.means (n + arrows (statement_tokens v.text)) here;
+          spans = spans_then (statement_framed v.text) v.spans t.spans;
+        }
+
+    statements_from_sound : (n : ℕ) (looped start : Bool) (so_far : List Stmt) (i : Input) → Sound (Statements_run form room looped start so_far i) (statements_from form room inner looped start n so_far i)
+    unfolding statements_from
+    statements_from_sound zero looped start so_far i = refused
+    statements_from_sound (suc n) looped start so_far i = by_bool (sees (Sign (codes "}")) i)
+        (λ h. rw h (read {j = i} (record { text = No_statement; keeping = tt; flat = omega arith; means = λ n q. append-nil so_far; spans = record { spelt = refl; count = omega arith } })))
+        (λ h. rw h (sound_then (statement_sound looped start i) (λ x a v. implied (statements_from_sound n looped false (so_far ++ x ∷ []) a) (λ ys j t. next_statement looped start so_far i a j x ys v t))))
+
+    pub block_sound : (looped : Bool) (i : Input) → Sound (Block_read form (suc room) looped i) (block form room inner looped i)
+    unfolding block
+    block_sound looped i = sound_then (statements_from_sound (length i.tokens) looped true [] i) (λ xs a v. sound_then (expect_sound (Sign (codes "}")) a refl) (λ _ j p.
+        let f = v.flat in
+        read (record { text = v.text; keeping = v.keeping; flat = omega (arith, f); means = v.means; spans = spans_then (statements_framed v.text) v.spans p })))
+
+    -- one statement that is no block and no declaration
+    single_by_sound : (looped : Bool) (i : Input) → sees (Sign (codes "{")) i ≡ false → (b : Bool) → (first_is (Word (codes "const")) i.tokens || first_is (Word (codes "let")) i.tokens) ≡ b → Sound (Part_read form (suc room) looped i) (single_by form room inner looped b i)
+    single_by_sound looped i h true k = refused
+    single_by_sound looped i h false k = sound_then (statement_sound looped false i) (λ x j v.
+        let f = v.flat in
+        read (record {
+          text = Statement_part v.text;
+          keeping = (v.alone (no_declaration i h k), v.keeping);
+          flat = omega (arith, f);
+          means = λ n q. ap (λ x. x ∷ []) (v.means n q);
+          spans = v.spans;
+          ends = v.ends;
+        }))
+
+    pub single_sound : (looped : Bool) (i : Input) → sees (Sign (codes "{")) i ≡ false → Sound (Part_read form (suc room) looped i) (single form room inner looped i)
+    unfolding single
+    single_sound looped i h = single_by_sound looped i h (first_is (Word (codes "const")) i.tokens || first_is (Word (codes "let")) i.tokens) refl
+
+    -- what follows `else` needs one level for itself
+    pub else_sound : (looped : Bool) (i : Input) → Sound (Else_read form (suc room) looped i) (group form room inner (Otherwise looped) i)
+    unfolding group
+    else_sound looped i = sound_then (enter_sound room i) (λ _ a r. subst (λ a. Sound (Else_read form (suc room) looped i) (held form room inner looped a)) r.0 (implied (held_sound looped i) (λ xs j p. else_read looped i j xs p)))

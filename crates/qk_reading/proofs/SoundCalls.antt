@@ -101,7 +101,7 @@ module _ (form : Form) (room : ℕ) (inner : Nested) (nested_sound : (i : Input)
   dotted_head : (object method : Characters) (us : List Token) (n : ℕ) (end b : Input) (text : Arguments) → arguments_keep form text → arguments_depth text ≤ room - 1 → 1 ≤ room
       → (is_called_on object method && is_one_argument text) ≡ false → Spans (arguments_tokens text) (at us n) end → Spans (sign (codes ")")) end b
       → Headed (at (Token.Name object ∷ Token.Punct (codes ".") ∷ Token.Name method ∷ Token.Punct (codes "(") ∷ us) n)
-        (headed (e.Name (bytes object)) Called (l.Prop (bytes method) ∷ l.Call (arguments_tree n text) ∷ [])) b
+      (headed (e.Name (bytes object)) Called (l.Prop (bytes method) ∷ l.Call (arguments_tree n text) ∷ [])) b
   dotted_head object method us n end b text ke f g o s c = λ r j t.
       let i : Input = at (Token.Name object ∷ Token.Punct (codes ".") ∷ Token.Name method ∷ Token.Punct (codes "(") ∷ us) n in
       subst (λ ls. Reading form (suc room) 8 i (linked (headed (e.Name (bytes object)) Called (l.Prop (bytes method) ∷ l.Call (arguments_tree n text) ∷ [])) (ls, r.1)) j) (t.means b.arrows refl)
@@ -150,7 +150,7 @@ module _ (form : Form) (room : ℕ) (inner : Nested) (nested_sound : (i : Input)
       go (Only x) ke f s =
           let here : Spans (name_of (codes "String") ⨾ sign (codes "(")) (at (known_tokens known.Str us) n) (at us n) = record { spelt = refl; count = omega arith } in
           known_head (at (known_tokens known.Str us) n) b known.Str (tree n x) (Str x) ke refl (omega (arith, f, g)) (λ m q. ap (λ m. e.Known known.Str (tree m x ∷ [])) q) refl (λ y more. refl)
-            (spans_then (name_framed (codes "String") ▹ sign_framed (codes "(")) here (spans_then (framed x) s c))
+          (spans_then (name_framed (codes "String") ▹ sign_framed (codes "(")) here (spans_then (framed x) s c))
       go No_argument ke f s = named_head us n end b No_argument ke f g refl s c
       go (Comma x No_argument) ke f s = named_head us n end b (Comma x No_argument) ke f g refl s c
       go (Comma x (Only y)) ke f s = named_head us n end b (Comma x (Only y)) ke f g refl s c
@@ -221,22 +221,22 @@ module _ (form : Form) (room : ℕ) (inner : Nested) (nested_sound : (i : Input)
     more_sound : (i a : Input) (x : Read) → Reading form room 0 i x a → 1 ≤ room → (b : Bool) → sees (Sign (codes ",")) a ≡ b → Sound (Arguments_read form room i) (more_by form room inner x.tree b (after (Sign (codes ",")) a))
     more_sound i a x v g b s = by_sees (Sign (codes ",")) a refl
         (λ h q p. subst (λ b. Sound (Arguments_read form room i) (more_by form room inner x.tree b (after (Sign (codes ",")) a))) (sym h ∙ s) (rw q
-          (implied (separated_from_sound (λ _. Valued form room) (Sign (codes ")")) (nested form room inner) (λ so_far k. nested_sound k) (length (advance a).tokens) (x.tree ∷ []) (advance a)) (λ r k t.
-            let m = args_of form room inner nested_sound g t.run in
-            let c1 = v.spans.count in
-            let c2 = p.count in
-            let f = v.flat in
-            let f2 = m.flat in
-            record {
-              text = Comma v.text m.text;
-              keeping = (v.keeping, m.keeping);
-              flat = omega (arith, f, f2, g);
-              means = λ n q. ap₂ (λ x xs. x ∷ xs) (v.means n q) (m.means (n + arrows (tokens v.text)) (omega (arith, q, c1, c2))) ∙ t.parts;
-              comma_last = m.comma_last;
-              spans = spans_then (framed v.text) v.spans (spans_then comma_framed p m.spans);
-            }))))
+        (implied (separated_from_sound (λ _. Valued form room) (Sign (codes ")")) (nested form room inner) (λ so_far k. nested_sound k) (length (advance a).tokens) (x.tree ∷ []) (advance a)) (λ r k t.
+        let m = args_of form room inner nested_sound g t.run in
+        let c1 = v.spans.count in
+        let c2 = p.count in
+        let f = v.flat in
+        let f2 = m.flat in
+        record {
+          text = Comma v.text m.text;
+          keeping = (v.keeping, m.keeping);
+          flat = omega (arith, f, f2, g);
+          means = λ n q. ap₂ (λ x xs. x ∷ xs) (v.means n q) (m.means (n + arrows (tokens v.text)) (omega (arith, q, c1, c2))) ∙ t.parts;
+          comma_last = m.comma_last;
+          spans = spans_then (framed v.text) v.spans (spans_then comma_framed p m.spans);
+        }))))
         (λ h q. subst (λ b. Sound (Arguments_read form room i) (more_by form room inner x.tree b (after (Sign (codes ",")) a))) (sym h ∙ s) (rw q
-          (let f = v.flat in read (record { text = Only v.text; keeping = v.keeping; flat = omega (arith, f, g); means = λ n q. ap (λ x. x ∷ []) (v.means n q); comma_last = refl; spans = v.spans }))))
+        (let f = v.flat in read (record { text = Only v.text; keeping = v.keeping; flat = omega (arith, f, g); means = λ n q. ap (λ x. x ∷ []) (v.means n q); comma_last = refl; spans = v.spans }))))
 
     trunc_by_sound : (us : List Token) (n : ℕ) (a : Input) (x : Read) → Reading form room 0 (at us n) x a → 1 ≤ room → (b : Bool) → is_dividend x.kind a ≡ b → Sound (Headed (at (known_tokens known.Trunc us) n)) (trunc_by form room inner x.tree b a)
     trunc_by_sound us n a x v g true h =

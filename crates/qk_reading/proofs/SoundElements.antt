@@ -203,7 +203,7 @@ module _ (form : Form) (room : ℕ) (inner : Nested) (nested_sound : (i : Input)
     child_at (Token.JsxText text ∷ ts) n = read (text_child text ts n)
     child_at (Token.Punct a ∷ ts) n = by_bool (same a (codes "{"))
         (λ h. let s : Spans (sign (codes "{")) (at (Token.Punct a ∷ ts) n) (at ts n) = record { spelt = ap (λ c. Token.Punct c ∷ ts) (sym (same_is a (codes "{") h)); count = omega arith } in
-          rw h (sound_then (entered (at ts n)) (λ b j r. subst (λ j. Sound (Maybe_child form room (at (Token.Punct a ∷ ts) n)) (braced_by form room inner b j)) r.0 (braced_sound (at (Token.Punct a ∷ ts) n) (at ts n) s r.2 b r.1))))
+        rw h (sound_then (entered (at ts n)) (λ b j r. subst (λ j. Sound (Maybe_child form room (at (Token.Punct a ∷ ts) n)) (braced_by form room inner b j)) r.0 (braced_sound (at (Token.Punct a ∷ ts) n) (at ts n) s r.2 b r.1))))
         (λ h. rw h (read refl))
     child_at (Token.Begin a ∷ ts) n = sound_then (start_sound a ts n) (λ x d v. read (element_child a ts n x d v))
     child_at (t ∷ ts) n = read refl
@@ -220,7 +220,7 @@ module _ (form : Form) (room : ℕ) (inner : Nested) (nested_sound : (i : Input)
     children_from_sound zero so_far i = read (no_children so_far i i refl)
     children_from_sound (suc n) so_far i = sound_then (child_at i.tokens i.arrows) (λ o a r.
         elim o as (λ o. Maybe_child form room i o a → Sound (Children_run form room so_far i) (maybe o (pure so_far)
-            (λ x. maybe x (sparse_from (child form room inner) n so_far) (λ y. sparse_from (child form room inner) n (so_far ++ y ∷ []))) a)) [
+        (λ x. maybe x (sparse_from (child form room inner) n so_far) (λ y. sparse_from (child form room inner) n (so_far ++ y ∷ []))) a)) [
           | None ↦ λ q. read (no_children so_far i a q)
           | Some x ↦ elim x as (λ x. Child_read form room i x a → Sound (Children_run form room so_far i) (maybe x (sparse_from (child form room inner) n so_far) (λ y. sparse_from (child form room inner) n (so_far ++ y ∷ [])) a)) [
             | None ↦ λ c. implied (children_from_sound n so_far a) (λ ys j t. record { others = t.others; parts = t.parts; run = c t.others j t.run })
@@ -277,7 +277,7 @@ module _ (form : Form) (room : ℕ) (inner : Nested) (nested_sound : (i : Input)
     tagged_sound i = sound_then (name_sound is_tag_name i) (λ tag a s. sound_then (attributes_sound a) (λ fs b v. by_sees (Sign (codes "/>")) b refl
         (λ z q p. rw (z, q) (read (closed_read i a b (advance b) tag fs s.1 s.0 v p)))
         (λ z q. rw (z, q) (sound_then (expect_sound (Sign (codes ">")) b refl) (λ _ c p. sound_then (children_sound c) (λ xs d w. sound_then (expect_sound (Sign (codes "</")) d refl) (λ _ f o.
-          sound_then (name_sound (same tag) f) (λ end g r. sound_then (expect_sound (Sign (codes ">")) g refl) (λ _ k u. read (open_read i a b c d f g k tag end fs xs s.1 r.1 s.0 v p w o r.0 u))))))))))
+        sound_then (name_sound (same tag) f) (λ end g r. sound_then (expect_sound (Sign (codes ">")) g refl) (λ _ k u. read (open_read i a b c d f g k tag end fs xs s.1 r.1 s.0 v p w o r.0 u))))))))))
 
     -- behind `<>`
     pub untagged_sound : (i : Input) → Sound (Element_read form (suc room) (codes "<>") i) (untagged form room inner i)

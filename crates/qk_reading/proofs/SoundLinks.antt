@@ -71,7 +71,6 @@ module _ (form : Form) (room : ℕ) (inner : Nested) (nested_sound : (i : Input)
   word_at (Token.Reserved a ∷ ts) n = let sp : Spans (word_tokens (Taken a)) (at (Token.Reserved a ∷ ts) n) (at ts n) = record { spelt = refl; count = omega arith } in read {j = at ts n} (Taken a, refl, sp)
   word_at (t ∷ ts) n = refused
 
-
   link_at : (ts : List Token) (n : ℕ) → Sound (Maybe_link (at ts n)) (link form room inner (at ts n))
   unfolding link
   link_at [] n = read refl

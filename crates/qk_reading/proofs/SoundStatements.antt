@@ -130,9 +130,9 @@ module _ (form : Form) (room : ℕ) (inner : Nested) (whole_sound : (i : Input) 
   unfolding scope
   scope_sound looped i a built al w h = by_sees (Sign (codes "[")) a refl
       (λ _ _ br. sound_then (enter_sound room (advance a)) (λ _ b g. sound_then (name_sound (λ _. true) b) (λ x c na. sound_then (scope_names_sound c) (λ xs d sc. sound_then (expect_sound (Sign (codes "]")) d refl) (λ _ f cl.
-        sound_then (expect_sound (Sign (codes "=")) f refl) (λ _ g' q. sound_then (expect_sound (Given (codes "useLexicalScope")) g' refl) (λ _ k us. sound_then (expect_sound (Sign (codes "(")) k refl) (λ _ l op.
-        sound_then (expect_sound (Sign (codes ")")) l refl) (λ _ m ed. sound_then (expect_sound (Sign (codes ";")) m refl) (λ _ o e.
-        read (scope_read looped i a b c d f g' k l m o x xs built g.1 al w (subst (λ b. Spans (sign (codes "[")) a b) g.0 br) na.0 sc cl q us op ed e)))))))))))
+      sound_then (expect_sound (Sign (codes "=")) f refl) (λ _ g' q. sound_then (expect_sound (Given (codes "useLexicalScope")) g' refl) (λ _ k us. sound_then (expect_sound (Sign (codes "(")) k refl) (λ _ l op.
+      sound_then (expect_sound (Sign (codes ")")) l refl) (λ _ m ed. sound_then (expect_sound (Sign (codes ";")) m refl) (λ _ o e.
+      read (scope_read looped i a b c d f g' k l m o x xs built g.1 al w (subst (λ b. Spans (sign (codes "[")) a b) g.0 br) na.0 sc cl q us op ed e)))))))))))
       (λ s _. clash h s)
 
   -- ---- words and a semicolon, each behind its word
@@ -175,16 +175,16 @@ module _ (form : Form) (room : ℕ) (inner : Nested) (whole_sound : (i : Input) 
           alone = λ h. refl;
         })))
         (λ h _. rw h (sound_then (step_sound a) (λ x b v. sound_then (expect_sound (Sign (codes ";")) b refl) (λ _ j e.
-          let c = w.count in
-          read (record {
-            text = Return_step v.text;
-            keeping = v.keeping;
-            flat = v.flat;
-            means = λ n t. ap (λ x. s.Return (Some x)) (v.means n (omega (arith, t, c)));
-            spans = spans_then (reserved_framed (codes "return")) w (spans_then (step_framed v.text) v.spans e);
-            ends = λ h. clash {b = false} h refl;
-            alone = λ h. refl;
-          })))))
+        let c = w.count in
+        read (record {
+          text = Return_step v.text;
+          keeping = v.keeping;
+          flat = v.flat;
+          means = λ n t. ap (λ x. s.Return (Some x)) (v.means n (omega (arith, t, c)));
+          spans = spans_then (reserved_framed (codes "return")) w (spans_then (step_framed v.text) v.spans e);
+          ends = λ h. clash {b = false} h refl;
+          alone = λ h. refl;
+        })))))
 
     pub done_sound : (looped start : Bool) (i : Input) → sees (Sign (codes "{")) i ≡ false → Sound (Statement_read form room looped start i) (done form room inner i)
     unfolding done

@@ -151,21 +151,21 @@ module _ (form : Form) (room : ℕ) (inner : Nested) (whole_sound : (i : Input) 
   unfolding body
   body_sound braced i = by_sees (Sign (codes "{")) i refl
       (λ s q p. rw (s, q) (sound_then (braced (advance i)) (λ xs j v.
-        let f = v.flat in
-        let c = p.count in
-        read (record {
-          text = Block_body v.text;
-          keeping = v.keeping;
-          flat = omega (arith, f);
-          means = λ n q. ap b.Block (v.means n (omega (arith, q, c)));
-          spans = spans_then (sign_framed (codes "{")) p v.spans;
-        }))))
+      let f = v.flat in
+      let c = p.count in
+      read (record {
+        text = Block_body v.text;
+        keeping = v.keeping;
+        flat = omega (arith, f);
+        means = λ n q. ap b.Block (v.means n (omega (arith, q, c)));
+        spans = spans_then (sign_framed (codes "{")) p v.spans;
+      }))))
       (λ s q. rw (s, q) (sound_then (step_sound i) (λ x j v.
-        let f = v.flat in
-        read (record {
-          text = Step_body v.text;
-          keeping = (no_brace (step_tokens v.text) i j (step_framed v.text) v.spans s, v.keeping);
-          flat = omega (arith, f);
-          means = λ n q. ap b.Value (v.means n q);
-          spans = v.spans;
-        }))))
+      let f = v.flat in
+      read (record {
+        text = Step_body v.text;
+        keeping = (no_brace (step_tokens v.text) i j (step_framed v.text) v.spans s, v.keeping);
+        flat = omega (arith, f);
+        means = λ n q. ap b.Value (v.means n q);
+        spans = v.spans;
+      }))))

@@ -21,14 +21,16 @@ pub record ParsesWithin (form : Form) (deepest : ℕ) (ts : List Token) (m : Mod
   pub parse : Parses form ts m
   pub flat : module_depth parse.text ≤ deepest
 
--- what is written within the nesting is read
-abbrev pub ReadsAll : Type 0
-ReadsAll = (form : Form) (deepest : ℕ) (ts : List Token) (m : Module) → ParsesWithin form deepest ts m → read_module form deepest ts ≡ Ok m
+-- the reader answers the module exactly where the tokens derive it within the nesting
+abbrev pub ReadsExactly : Type 0
+ReadsExactly = (form : Form) (deepest : ℕ) (ts : List Token) (m : Module) → (ParsesWithin form deepest ts m → read_module form deepest ts ≡ Ok m) × (read_module form deepest ts ≡ Ok m → ParsesWithin form deepest ts m)
 
--- a fault comes only where no module within the nesting has the tokens
-abbrev pub FaultsOnlyWhereNone : Type 0
-FaultsOnlyWhereNone = (form : Form) (deepest : ℕ) (ts : List Token) (fault : Fault) (m : Module) → read_module form deepest ts ≡ Err fault → ParsesWithin form deepest ts m → ⊥
+-- a fault comes exactly where the tokens derive no module within the nesting
+abbrev pub FaultsExactly : Type 0
+FaultsExactly = (form : Form) (deepest : ℕ) (ts : List Token)
+    → ((fault : Fault) → read_module form deepest ts ≡ Err fault → (m : Module) → ParsesWithin form deepest ts m → ⊥)
+    × (((m : Module) → ParsesWithin form deepest ts m → ⊥) → (fault : Fault) × (read_module form deepest ts ≡ Err fault))
 
--- a token is out of place only where no module of any nesting has the tokens
+-- a token is found out of place only where no module of any nesting has the tokens
 abbrev pub SyntaxOnlyWhereNone : Type 0
 SyntaxOnlyWhereNone = (form : Form) (deepest left : ℕ) (ts : List Token) (m : Module) → read_module form deepest ts ≡ Err (Syntax left) → Parses form ts m → ⊥

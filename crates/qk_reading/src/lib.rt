@@ -2,7 +2,7 @@
 //! Each law is the contract of a function that does nothing.
 #![tactic(auto)]
 
-ghost use Rattle.qk_reading.specs.Laws.{FaultsOnlyWhereNone, OneModule, OneParse, ReadsAll, SyntaxOnlyWhereNone};
+ghost use Rattle.qk_reading.specs.Laws.{FaultsExactly, OneModule, OneParse, ReadsExactly, SyntaxOnlyWhereNone};
 
 /// A text derives one module at most in a form.
 pub fn one_module()
@@ -14,14 +14,14 @@ pub fn one_parse()
     ensures { OneParse }
 {}
 
-/// The reader answers each module that is written within the nesting.
-pub fn reads_all()
-    ensures { ReadsAll }
+/// The reader answers a module exactly where the tokens derive it within the nesting.
+pub fn reads_exactly()
+    ensures { ReadsExactly }
 {}
 
-/// The reader refuses only where no module within the nesting has the tokens.
-pub fn faults_only_where_none()
-    ensures { FaultsOnlyWhereNone }
+/// The reader refuses exactly where the tokens derive no module within the nesting.
+pub fn faults_exactly()
+    ensures { FaultsExactly }
 {}
 
 /// The reader finds a token out of place only where no module of any nesting has the tokens.
