@@ -25,3 +25,5 @@ mod SoundLinks
 mod SoundCalls
 mod SoundNesting
 mod SoundModules
+mod Raised
+mod RaisedForms

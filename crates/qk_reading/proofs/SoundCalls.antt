@@ -28,13 +28,13 @@ use Rattle.qk_reading.proofs.Sound.{Sound, read, refused, sound_then, implied, S
 use Rattle.qk_reading.proofs.SoundLinks.{Links_run, Head_read, alone_or_linked, atom_head}
 
 -- the tokens that a known call begins with
-abbrev known_tokens : Known → List Token → List Token
+abbrev pub known_tokens : Known → List Token → List Token
 known_tokens known.Str ts = Token.Name (codes "String") ∷ Token.Punct (codes "(") ∷ ts
 known_tokens known.Log ts = Token.Name (codes "console") ∷ Token.Punct (codes ".") ∷ Token.Name (codes "log") ∷ Token.Punct (codes "(") ∷ ts
 known_tokens known.Keys ts = Token.Name (codes "Object") ∷ Token.Punct (codes ".") ∷ Token.Name (codes "keys") ∷ Token.Punct (codes "(") ∷ ts
 known_tokens known.Trunc ts = Token.Name (codes "Math") ∷ Token.Punct (codes ".") ∷ Token.Name (codes "trunc") ∷ Token.Punct (codes "(") ∷ ts
 
-abbrev Begins_known : List Token → Option Known → Type 0
+abbrev pub Begins_known : List Token → Option Known → Type 0
 Begins_known ts None = Unit {0}
 Begins_known ts (Some k) = (us : List Token) × (ts ≡ known_tokens k us)
 
@@ -59,7 +59,7 @@ dotted_known a b c d us s n o =
     by_bool (same a (codes "Math") && same c (codes "trunc")) (λ h. rw (n, s, o, h1, h2, h) (let p = both (same a (codes "Math")) (same c (codes "trunc")) h in (us, dotted_call (codes "Math") (codes "trunc") a b c d us p.0 s p.1 o))) (λ h3.
     rw (n, s, o, h1, h2, h3) tt)))
 
-begins_known : (ts : List Token) → Begins_known ts (known_ahead ts)
+pub begins_known : (ts : List Token) → Begins_known ts (known_ahead ts)
 unfolding known_ahead
 begins_known (Token.Name a ∷ Token.Punct b ∷ us) = by_bool (same b (codes "("))
     (λ k. by_bool (same a (codes "String")) (λ h. rw (k, h) (us, named_call a b us h k)) (λ h. rw (k, h) tt))

@@ -1,11 +1,12 @@
 -- The laws of reading: a text has one module, and the reader answers it exactly.
-use Rattle.std.specs.Prelude.{◌≡◌, ◌≤◌, ℕ, List, Ok, Err}
+use Rattle.std.specs.Prelude.{◌≡◌, ◌≤◌, ◌<◌, ℕ, ◌+◌, Bool, true, false, if◌then◌else◌, List, [], ◌∷◌, ◌++◌, map, length, Ok, Err, codes}
 use Rattle.qk_ast.specs.declared.Form.{Form}
 use Rattle.qk_ast.specs.declared.Module.{Module}
-use Rattle.qk_ast.specs.Tokens.{Token}
+use Rattle.qk_ast.specs.Characters.{is_one_of}
+use Rattle.qk_ast.specs.Tokens.{Token, Edge}
 use Rattle.qk_ast.specs.Depth.{module_depth}
 use Rattle.qk_ast.specs.Derives.{Parses, Derives}
-use Rattle.qk_reading.specs.Input.{Fault, Syntax}
+use Rattle.qk_reading.specs.Input.{Fault, Syntax, TooDeep}
 use Rattle.qk_reading.specs.Reader.{read_module}
 
 -- a text derives one module at most in a form
@@ -34,3 +35,28 @@ FaultsExactly = (form : Form) (deepest : ℕ) (ts : List Token)
 -- a token is found out of place only where no module of any nesting has the tokens
 abbrev pub SyntaxOnlyWhereNone : Type 0
 SyntaxOnlyWhereNone = (form : Form) (deepest left : ℕ) (ts : List Token) (m : Module) → read_module form deepest ts ≡ Err (Syntax left) → Parses form ts m → ⊥
+
+-- A token that can raise the nesting: an opening bracket, a template's part that opens a hole, a `<` that begins JSX, and these signs and words.
+abbrev pub can_raise : Token → Bool
+can_raise (Token.Punct sign) = is_one_of sign (map codes ("(" ∷ "[" ∷ "{" ∷ "=>" ∷ "!" ∷ "-" ∷ "?" ∷ ":" ∷ []))
+can_raise (Token.Reserved word) = is_one_of word (map codes ("if" ∷ "else" ∷ "while" ∷ "for" ∷ []))
+can_raise (Token.Template from pieces Edge.Hole) = true
+can_raise (Token.Begin sign) = true
+can_raise _ = false
+
+abbrev pub raisers : List Token → ℕ
+raisers [] = 0
+raisers (token ∷ more) = if can_raise token then 1 + raisers more else raisers more
+
+-- Of the tokens up to and with the one from which so many are left, more than that number can raise the nesting.
+pub record RaisedPast (deepest left : ℕ) (ts : List Token) : Type 0 where
+  pub front : List Token
+  pub place : Token
+  pub behind : List Token
+  pub spells : front ++ place ∷ behind ≡ ts
+  pub number : length (place ∷ behind) ≡ left
+  pub raised : deepest < raisers (front ++ place ∷ [])
+
+-- a token is found too deep only where so many tokens can raise the nesting
+abbrev pub TooDeepOnlyWhereRaised : Type 0
+TooDeepOnlyWhereRaised = (form : Form) (deepest left : ℕ) (ts : List Token) → read_module form deepest ts ≡ Err (TooDeep left) → RaisedPast deepest left ts
