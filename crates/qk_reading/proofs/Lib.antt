@@ -27,3 +27,4 @@ mod SoundNesting
 mod SoundModules
 mod Raised
 mod RaisedForms
+mod RaisedStatements

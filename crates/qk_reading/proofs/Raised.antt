@@ -138,9 +138,9 @@ pub good_many_from : {A : Type 0} {n : ℕ} (step : Reader (Option A)) → ((i :
 unfolding many_from
 good_many_from step h zero so_far i = fine here
 good_many_from {n = n} step h (suc k) so_far i = good_then (h i) (λ o j. elim o as (λ o. Good n j (maybe o (pure so_far) (λ x. many_from step k (so_far ++ x ∷ [])) j)) [
-    | None ↦ fine here
-    | Some x ↦ good_many_from step h k (so_far ++ x ∷ []) j
-  ])
+  | None ↦ fine here
+  | Some x ↦ good_many_from step h k (so_far ++ x ∷ []) j
+])
 
 pub good_many : {A : Type 0} {n : ℕ} (step : Reader (Option A)) → ((i : Input) → Good n i (step i)) → (i : Input) → Good n i (many step i)
 unfolding many

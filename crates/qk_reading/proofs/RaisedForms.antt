@@ -29,11 +29,14 @@ pub record IsGood (room : ℕ) (inner : Nested) : Type 0 where
   pub alone : (looped : Bool) (i : Input) → Good room i (inner.group (Single looped) i)
   pub otherwise : (looped : Bool) (i : Input) → Good (room - 1) i (inner.group (Otherwise looped) i)
 
-raise_sign : {A : Type 0} {n : ℕ} {o : Outcome A} (s a : Characters) (ts : List Token) (m : ℕ) → same a s ≡ true → can_raise (Token.Punct s) ≡ true → Good n (at ts m) o → Good (suc n) (at (Token.Punct a ∷ ts) m) o
+pub raise_sign : {A : Type 0} {n : ℕ} {o : Outcome A} (s a : Characters) (ts : List Token) (m : ℕ) → same a s ≡ true → can_raise (Token.Punct s) ≡ true → Good n (at ts m) o → Good (suc n) (at (Token.Punct a ∷ ts) m) o
 raise_sign s a ts m h r g = raise {j = at ts m} (Token.Punct s) r (ap (λ c. Token.Punct c ∷ ts) (sym (same_is a s h))) g
 
+pub raise_word : {A : Type 0} {n : ℕ} {o : Outcome A} (w a : Characters) (ts : List Token) (m : ℕ) → same a w ≡ true → can_raise (Token.Reserved w) ≡ true → Good n (at ts m) o → Good (suc n) (at (Token.Reserved a ∷ ts) m) o
+raise_word w a ts m h r g = raise {j = at ts m} (Token.Reserved w) r (ap (λ c. Token.Reserved c ∷ ts) (sym (same_is a w h))) g
+
 -- one token taken, or none where none is left
-one_behind : (i : Input) → Follows i (advance i)
+pub one_behind : (i : Input) → Follows i (advance i)
 one_behind i = record { front = front i.tokens; spells = so i.tokens }
   where
     front : List Token → List Token
@@ -66,7 +69,7 @@ good_params : (room : ℕ) (i : Input) → Good (suc room) i (params room i)
 unfolding params
 good_params room i = by_seen (Sign (codes "(")) i
     (λ s a e. rw (s, a) (raise {j = advance i} (Token.Punct (codes "(")) refl e (good_then (good_enter room (advance i)) (λ _ j.
-      good_then (good_separated (Sign (codes ")")) (pattern (room - 1)) (λ k. weaker (omega arith) (good_pattern (room - 1) k)) j) (λ xs k. good_then (good_expect (Sign (codes ")")) k) (λ _ l. fine here))))))
+    good_then (good_separated (Sign (codes ")")) (pattern (room - 1)) (λ k. weaker (omega arith) (good_pattern (room - 1) k)) j) (λ xs k. good_then (good_expect (Sign (codes ")")) k) (λ _ l. fine here))))))
     (λ s a. rw (s, a) (good_then (good_name (λ _. true) i) (λ x j. fine here)))
 
 good_head_of_arrow : (room : ℕ) (i : Input) → Good (suc room) i (arrow_head room i)
@@ -203,9 +206,9 @@ module _ (form : Form) (room : ℕ) (inner : Nested) (g : IsGood room inner) whe
   unfolding links_from
   good_links_from zero kind so_far i = fine here
   good_links_from (suc k) kind so_far i = good_then (link_at i.tokens i.arrows) (λ o j. elim o as (λ o. Good (suc room) j (maybe o (pure (so_far, kind)) (λ (x : Tree_link × Kind). links_from form room inner k (x.1) (so_far ++ x.0 ∷ [])) j)) [
-      | None ↦ fine here
-      | Some x ↦ good_links_from k (x.1) (so_far ++ x.0 ∷ []) j
-    ])
+    | None ↦ fine here
+    | Some x ↦ good_links_from k (x.1) (so_far ++ x.0 ∷ []) j
+  ])
 
   pub good_postfix : (i : Input) → Good (suc room) i (postfix form room inner i)
   unfolding postfix links

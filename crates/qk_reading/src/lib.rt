@@ -2,7 +2,7 @@
 //! Each law is the contract of a function that does nothing.
 #![tactic(auto)]
 
-ghost use Rattle.qk_reading.specs.Laws.{FaultsExactly, OneModule, OneParse, ReadsExactly, SyntaxOnlyWhereNone};
+ghost use Rattle.qk_reading.specs.Laws.{FaultsExactly, OneModule, OneParse, ReadsExactly, SyntaxOnlyWhereNone, TooDeepOnlyWhereRaised};
 
 /// A text derives one module at most in a form.
 pub fn one_module()
@@ -27,4 +27,9 @@ pub fn faults_exactly()
 /// The reader finds a token out of place only where no module of any nesting has the tokens.
 pub fn syntax_only_where_none()
     ensures { SyntaxOnlyWhereNone }
+{}
+
+/// The reader finds a token too deep only where more tokens up to it can raise the nesting than the nesting allows.
+pub fn too_deep_only_where_raised()
+    ensures { TooDeepOnlyWhereRaised }
 {}
