@@ -1,11 +1,11 @@
 -- A fault of nesting comes only behind so many tokens that can raise it: the steps and loops.
-use Rattle.std.proofs.Common.{◌≡◌, refl, sym, ◌∙◌, ap, subst, arith, append_assoc, length-append}
-use Rattle.std.specs.Prelude.{ℕ, zero, suc, ◌+◌, ◌≤◌, ◌<◌, Bool, true, false, if◌then◌else◌, nat_le, List, [], ◌∷◌, ◌++◌, length, Option, Some, None, Ok, Err, codes}
+use Rattle.std.proofs.Common.{◌≡◌, refl, ◌∙◌, ap, arith, append_assoc}
+use Rattle.std.specs.Prelude.{ℕ, zero, suc, ◌+◌, ◌≤◌, Bool, true, false, if◌then◌else◌, nat_le, List, [], ◌∷◌, ◌++◌, length, Option, Some, None, Ok, Err, codes}
 use Rattle.qk_ast.specs.Characters.{Characters}
 use Rattle.qk_ast.specs.Tokens.{Token}
-use Rattle.qk_reading.specs.Input.{Input, at, Fault, Syntax, TooDeep, Outcome, Reader, and_then, pure, maybe, ◌>>=◌, Mark, Sign, token_of, first_is, rest, advance, sees, after, peek, name_by, expect, name_that, number, enter, many_from, many, sparse_from, sparse, separated_from, separated, collected_from, collected}
-use Rattle.qk_reading.specs.Reader.{later, later_fault}
-use Rattle.qk_reading.specs.Laws.{can_raise, raisers, RaisedPast}
+use Rattle.qk_reading.specs.Input.{Input, at, Syntax, TooDeep, Outcome, Reader, and_then, pure, maybe, Mark, Sign, token_of, first_is, rest, advance, sees, after, expect, name_that, number, enter, many_from, many, sparse_from, sparse, separated_from, separated, collected_from, collected}
+use Rattle.qk_reading.specs.Reader.{later}
+use Rattle.qk_reading.specs.Laws.{can_raise, raisers}
 use Rattle.qk_reading.proofs.Follow.{by_bool}
 use Rattle.qk_reading.proofs.Sound.{mark_seen}
 

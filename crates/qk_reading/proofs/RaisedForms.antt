@@ -1,25 +1,24 @@
 -- A fault of nesting comes only behind so many tokens that can raise it: expressions.
-use Rattle.std.proofs.Common.{◌≡◌, refl, sym, ◌∙◌, ap, subst, arith}
-use Rattle.std.specs.Prelude.{ℕ, zero, suc, ◌+◌, ◌-◌, ◌≤◌, Bool, true, false, ◌&&◌, if◌then◌else◌, nat_le, List, [], ◌∷◌, ◌++◌, length, Option, Some, None, codes}
+use Rattle.std.proofs.Common.{◌≡◌, refl, sym, ap, subst, arith}
+use Rattle.std.specs.Prelude.{ℕ, zero, suc, ◌-◌, Bool, true, false, ◌&&◌, nat_le, List, [], ◌∷◌, ◌++◌, length, Option, Some, None, codes}
 use Rattle.qk_ast.specs.declared.Form.{Form}
 use Rattle.qk_ast.specs.declared.Expr.{Expr}
 use Rattle.qk_ast.specs.declared.Link.{Link as Tree_link}
 use Rattle.qk_ast.specs.declared.Field.{Field as Tree_field}
 use Rattle.qk_ast.specs.declared.Bin.{Bin}
-use Rattle.qk_ast.specs.declared.Operand.{Operand as Tree_operand}
 use Rattle.qk_ast.specs.declared.Known.{Known}
 use Rattle.qk_ast.specs.declared.Known.TheVariants as known
 use Rattle.qk_ast.specs.Characters.{Characters, same, is_one_of}
-use Rattle.qk_ast.specs.Tokens.{Token, Edge, is_tag_name}
+use Rattle.qk_ast.specs.Tokens.{Token, Edge}
 use Rattle.qk_ast.specs.Tree.{bytes, value}
 use Rattle.qk_ast.specs.Grammar.{Level, Or_level, Coalesce_level, And_level, Same_level, Order_level, Sum_level, Product_level}
-use Rattle.qk_reading.specs.Input.{Input, at, Outcome, Reader, Nested, Inner, Whole, Tight, Tagged, Untagged, Braced, Single, Otherwise, Read, Kind, Head, pure, peek, maybe, ◌>>=◌, ◌>>◌, ◌<$>◌, Mark, Sign, first_is, rest, advance, sees, after, name, many, sparse, enter, look}
-use Rattle.qk_reading.specs.Reader.{names, pattern, params, arrow_head, arrow_ahead, nested, args, field_value, fresh, keys, field, fields, part, holes_from, holes, bracketed, element, start_by, bracket_by, literal, word_by, atom, known_ahead, called, trunc, trunc_from, trunc_by, more_by, divides, is_dividend, head, dot_by, link, links_from, links, postfix, unary, kind_tightness, operator_at, operator, operand, chain, product, sum, order, equality, conjunction, logic, logic_by, choice, arrow, whole}
+use Rattle.qk_reading.specs.Input.{Input, at, Outcome, Reader, Nested, Inner, Whole, Tight, Tagged, Untagged, Braced, Single, Otherwise, Read, Kind, pure, peek, maybe, ◌>>=◌, ◌<$>◌, Mark, Sign, rest, advance, sees, name, many}
+use Rattle.qk_reading.specs.Reader.{names, pattern, params, arrow_head, arrow_ahead, nested, args, field_value, fresh, keys, field, fields, part, holes_from, holes, bracketed, start_by, bracket_by, literal, word_by, atom, known_ahead, called, trunc, trunc_from, trunc_by, more_by, divides, is_dividend, head, dot_by, link, links_from, links, postfix, unary, kind_tightness, operator_at, operator, operand, chain, product, sum, order, equality, conjunction, logic, logic_by, choice, arrow, whole}
 use Rattle.qk_reading.specs.Laws.{can_raise}
 use Rattle.qk_ast.proofs.FrontToken.{same_is}
 use Rattle.qk_reading.proofs.Follow.{by_bool}
 use Rattle.qk_reading.proofs.SoundCalls.{known_tokens, Begins_known, begins_known}
-use Rattle.qk_reading.proofs.Raised.{Good, fine, wrong, deep, Follows, here, pass, weaker, raise, skip, good_then, good_later, by_seen, good_expect, expect_raises, number_raises, good_then_then, good_number, good_name, good_enter, good_many, good_sparse, good_separated, good_separated_from, good_collected}
+use Rattle.qk_reading.proofs.Raised.{Good, fine, wrong, Follows, here, pass, weaker, raise, skip, good_then, good_later, by_seen, good_expect, number_raises, good_then_then, good_number, good_name, good_enter, good_many, good_separated, good_separated_from, good_collected}
 
 -- what nests so deep at most is good
 pub record IsGood (room : ℕ) (inner : Nested) : Type 0 where

@@ -1,19 +1,18 @@
 -- A fault of nesting comes only behind so many tokens that can raise it: elements, steps and statements.
 use Rattle.std.proofs.Common.{◌≡◌, refl, sym, ◌∙◌, ap, subst, arith, append_assoc, true≢false}
-use Rattle.std.specs.Prelude.{ℕ, zero, suc, ◌+◌, ◌-◌, ◌≤◌, Bool, true, false, ◌&&◌, ◌||◌, if◌then◌else◌, List, [], ◌∷◌, ◌++◌, length, ◌<◌, Option, Some, None, Result, Ok, Err, codes}
+use Rattle.std.specs.Prelude.{ℕ, zero, suc, ◌-◌, ◌≤◌, Bool, true, false, ◌&&◌, ◌||◌, List, [], ◌∷◌, ◌++◌, length, ◌<◌, Option, Some, None, Result, Ok, Err, codes}
 use Rattle.qk_ast.specs.declared.Form.{Form}
 use Rattle.qk_ast.specs.declared.Module.{Module}
 use Rattle.qk_ast.specs.declared.Expr.{Expr}
 use Rattle.qk_ast.specs.declared.Stmt.{Stmt}
 use Rattle.qk_ast.specs.declared.Stmt.TheVariants as s
-use Rattle.qk_ast.specs.declared.Field.{Field as Tree_field}
 use Rattle.qk_ast.specs.declared.AssignOp.{AssignOp}
 use Rattle.qk_ast.specs.Characters.{Characters, same}
 use Rattle.qk_ast.specs.Tokens.{Token, is_tag_name}
 use Rattle.qk_ast.specs.Rules.{is_built}
-use Rattle.qk_reading.specs.Input.{Input, at, Fault, Syntax, TooDeep, Outcome, Inner, Whole, Tight, Tagged, Untagged, Nested, too_deep, is_end, Read, Braced, Single, Otherwise, Mark, Sign, Word, Given, Reader, pure, peek, ◌>>=◌, ◌>>◌, first_is, advance, sees, after, many, enter, look}
-use Rattle.qk_reading.specs.Reader.{nested, whole, postfix, set_by, attribute, braced_by, child, children, tagged, tagged_by, untagged, assign_at, assign_sign, assign_by, bump_at, bump_sign, is_target_kind, step, step_by, body, held, condition, comma_name, scope, declared, const_by, constant, variable, ended, returned, conditional, looping, each, is_member_kind, deleted, done, word_statement, statement, statements_from, block, single, single_by, group, level, nesting, text_by, import_line, next_import, item, item_by, next_item, module_of, outcome, read_module}
-use Rattle.qk_reading.specs.Laws.{can_raise, raisers, RaisedPast}
+use Rattle.qk_reading.specs.Input.{Input, at, Fault, Syntax, TooDeep, Outcome, Inner, Whole, Tight, Tagged, Untagged, Nested, too_deep, is_end, Read, Braced, Single, Otherwise, Sign, Word, Given, peek, ◌>>=◌, first_is, advance, sees}
+use Rattle.qk_reading.specs.Reader.{set_by, attribute, braced_by, child, children, tagged, untagged, assign_at, assign_sign, assign_by, bump_at, bump_sign, is_target_kind, step, step_by, body, held, condition, comma_name, scope, declared, constant, variable, ended, returned, conditional, looping, each, is_member_kind, deleted, done, word_statement, statement, statements_from, block, single, single_by, group, level, nesting, text_by, import_line, next_import, item, next_item, module_of, outcome, read_module}
+use Rattle.qk_reading.specs.Laws.{raisers, RaisedPast}
 use Rattle.qk_reading.proofs.Follow.{by_bool, clash}
 use Rattle.qk_reading.proofs.Raised.{Deep, Good, fine, wrong, deep, here, pass, weaker, raise, skip, good_then, by_seen, good_expect, expect_raises, good_name, good_enter, good_many, good_sparse}
 use Rattle.qk_reading.proofs.RaisedForms.{IsGood, one_behind, raise_sign, raise_word, good_names, good_pattern, good_nested, good_start, good_postfix, good_unary, good_whole}

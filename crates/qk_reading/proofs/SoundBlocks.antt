@@ -1,6 +1,6 @@
 -- What is read is written by the rules: conditions, parts, statements that hold others, and blocks.
-use Rattle.std.proofs.Common.{◌≡◌, refl, sym, ◌∙◌, ap, ap₂, subst, arith, append_assoc, append-nil, true≢false}
-use Rattle.std.specs.Prelude.{ℕ, zero, suc, ◌+◌, ◌≤◌, max, Bool, true, false, ◌&&◌, ◌||◌, if◌then◌else◌, List, [], ◌∷◌, ◌++◌, length, codes}
+use Rattle.std.proofs.Common.{◌≡◌, refl, sym, ◌∙◌, ap, ap₂, subst, arith, append_assoc, append-nil}
+use Rattle.std.specs.Prelude.{ℕ, zero, suc, ◌+◌, ◌≤◌, Bool, true, false, ◌&&◌, ◌||◌, List, [], ◌∷◌, ◌++◌, length, codes}
 use Rattle.qk_ast.specs.declared.Form.{Form}
 use Rattle.qk_ast.specs.declared.Expr.{Expr}
 use Rattle.qk_ast.specs.declared.Stmt.{Stmt}
@@ -9,13 +9,12 @@ use Rattle.qk_ast.specs.Characters.{Characters, same}
 use Rattle.qk_ast.specs.Tokens.{Token}
 use Rattle.qk_ast.specs.Grammar.{Expression, If, If_else, While, For_of, Block, Statements, No_statement, Then, Part, Block_part, Statement_part}
 use Rattle.qk_ast.specs.Spelling.{◌⨾◌, name as name_of, word, sign, round, tokens, statement_tokens, statements_tokens, part_tokens}
-use Rattle.qk_ast.specs.Depth.{inside, depth, statement_depth, statements_depth, part_depth}
-use Rattle.qk_ast.specs.Tree.{arrows, bytes, tree, statement_tree, statements_tree, part_tree}
-use Rattle.qk_ast.specs.Rules.{keeps, is_built, statement_keeps, statements_keep, part_keeps, ends_with_if, part_ends_with_if, may_be_part}
-use Rattle.qk_reading.specs.Input.{Input, at, Nested, Read, Mark, Sign, Word, Given, Braced, Single, Otherwise, Reader, pure, ◌>>=◌, first_is, advance, sees, after}
-use Rattle.qk_reading.specs.Reader.{nested, held, condition, constant, const_by, else_by, conditional, looping, each, word_statement, statement, statements_from, block, single, single_by, group, whole, step, postfix}
-use Rattle.qk_ast.proofs.FrontToken.{same_is}
-use Rattle.qk_reading.proofs.Framed.{Framed, framed, name_framed, reserved_framed, sign_framed, statement_framed, statements_framed, part_framed, ◌▹◌}
+use Rattle.qk_ast.specs.Depth.{inside, depth, statements_depth, part_depth}
+use Rattle.qk_ast.specs.Tree.{arrows, bytes, tree, statements_tree, part_tree}
+use Rattle.qk_ast.specs.Rules.{keeps, is_built, statements_keep, part_keeps, part_ends_with_if}
+use Rattle.qk_reading.specs.Input.{Input, at, Nested, Sign, Word, Given, Braced, Single, Otherwise, first_is, advance, sees}
+use Rattle.qk_reading.specs.Reader.{nested, held, condition, constant, conditional, looping, each, word_statement, statement, statements_from, block, single, single_by, group, whole, step, postfix}
+use Rattle.qk_reading.proofs.Framed.{framed, name_framed, reserved_framed, sign_framed, statement_framed, statements_framed, part_framed, ◌▹◌}
 use Rattle.qk_reading.proofs.Follow.{by_bool, clash}
 use Rattle.qk_reading.proofs.Counted.{counted}
 use Rattle.qk_reading.proofs.Sound.{Sound, read, refused, sound_then, implied, Spans, spans_then, by_sees, expect_sound, name_sound, enter_sound, sign_here, word_here, Reading, Valued}

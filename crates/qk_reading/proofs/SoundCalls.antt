@@ -1,31 +1,30 @@
 -- What is read is written by the rules: heads that begin as a known call.
-use Rattle.std.proofs.Common.{◌≡◌, refl, sym, ◌∙◌, ap, ap₂, subst, arith, true≢false}
-use Rattle.std.specs.Prelude.{ℕ, suc, ◌+◌, ◌-◌, ◌≤◌, ◌<◌, max, Bool, true, false, ◌&&◌, if◌then◌else◌, nat_le, List, [], ◌∷◌, ◌++◌, length, Option, Some, None, codes}
+use Rattle.std.proofs.Common.{◌≡◌, refl, sym, ◌∙◌, ap, ap₂, subst, arith}
+use Rattle.std.specs.Prelude.{ℕ, suc, ◌+◌, ◌-◌, ◌≤◌, Bool, true, false, ◌&&◌, nat_le, List, [], ◌∷◌, ◌++◌, length, Option, Some, None, codes}
 use lib.Dec.{leb→le, T}
 use Rattle.qk_ast.specs.declared.Form.{Form}
 use Rattle.qk_ast.specs.declared.Expr.{Expr}
 use Rattle.qk_ast.specs.declared.Expr.TheVariants as e
 use Rattle.qk_ast.specs.declared.Known.{Known}
 use Rattle.qk_ast.specs.declared.Known.TheVariants as known
-use Rattle.qk_ast.specs.declared.Link.{Link as Tree_link}
 use Rattle.qk_ast.specs.declared.Link.TheVariants as l
 use Rattle.qk_ast.specs.Characters.{Characters, same}
 use Rattle.qk_ast.specs.Tokens.{Token}
 use Rattle.qk_ast.specs.Grammar.{Free, Expression, Named, Log, Keys, Str, Trunc, Postfix, Link, Dot, Call, Links, Next_link, Arguments, No_argument, Only, Comma}
-use Rattle.qk_ast.specs.Spelling.{Writing, ◌⨾◌, name as name_of, sign, round, tokens, arguments_tokens, link_tokens, links_tokens}
-use Rattle.qk_ast.specs.Depth.{inside, depth, arguments_depth, links_depth}
+use Rattle.qk_ast.specs.Spelling.{Writing, ◌⨾◌, name as name_of, sign, round, tokens, arguments_tokens, link_tokens}
+use Rattle.qk_ast.specs.Depth.{depth, arguments_depth}
 use Rattle.qk_ast.specs.Tree.{arrows, bytes, tree, arguments_tree, links_tree}
 use Rattle.qk_ast.specs.Rules.{keeps, arguments_keep, binds, is_one_argument, is_called_on, reads_as_known}
 use Rattle.qk_reading.specs.Input.{Input, at, ◌>>◌, enter, look, Nested, Read, Head, headed, Atomic, Called, Sign, Whole, Tight, first_is, advance, sees, after}
-use Rattle.qk_reading.specs.Reader.{nested, known_ahead, called, called_with, trunc, trunc_by, trunc_from, divides, is_dividend, more_by, head, atom, math, math_links, plain_head, linked, kind_tightness}
+use Rattle.qk_reading.specs.Reader.{nested, known_ahead, called, called_with, trunc, trunc_by, trunc_from, divides, is_dividend, more_by, head, atom, math, math_links, linked, kind_tightness}
 use Rattle.qk_ast.proofs.FrontToken.{same_is}
 use Rattle.qk_reading.proofs.Framed.{Framed, framed, arguments_framed, sign_framed, name_framed, comma_framed, ◌▹◌}
 use Rattle.qk_reading.proofs.Follow.{by_bool, clash}
-use Rattle.qk_reading.proofs.Counted.{counted, kind, tight_kind}
+use Rattle.qk_reading.proofs.Counted.{kind, tight_kind}
 use Rattle.qk_reading.proofs.Atoms.{le_binds}
 use Rattle.qk_reading.proofs.Lists.{ends_comma}
-use Rattle.qk_reading.proofs.Sound.{Sound, read, refused, sound_then, implied, Spans, spans_then, by_sees, expect_sound, enter_sound, mark_seen, separated_from_sound, Reading, Valued, Arguments_read, args_of, args_sound}
-use Rattle.qk_reading.proofs.SoundLinks.{Links_run, Head_read, alone_or_linked, atom_head}
+use Rattle.qk_reading.proofs.Sound.{Sound, read, sound_then, implied, Spans, spans_then, by_sees, expect_sound, enter_sound, mark_seen, separated_from_sound, Reading, Valued, Arguments_read, args_of, args_sound}
+use Rattle.qk_reading.proofs.SoundLinks.{Head_read, alone_or_linked, atom_head}
 
 -- the tokens that a known call begins with
 abbrev pub known_tokens : Known → List Token → List Token

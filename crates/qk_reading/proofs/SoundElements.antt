@@ -1,6 +1,6 @@
 -- What is read is written by the rules: attributes, children and elements.
 use Rattle.std.proofs.Common.{◌≡◌, refl, sym, ◌∙◌, ap, ap₂, subst, arith, append_assoc, append-nil, true≢false}
-use Rattle.std.specs.Prelude.{ℕ, zero, suc, ◌+◌, ◌≤◌, max, Bool, true, false, List, [], ◌∷◌, ◌++◌, length, Option, Some, None, codes}
+use Rattle.std.specs.Prelude.{ℕ, zero, suc, ◌+◌, ◌≤◌, Bool, true, false, List, [], ◌∷◌, ◌++◌, length, Option, Some, None, codes}
 use Rattle.qk_ast.specs.declared.Form.{Form}
 use Rattle.qk_ast.specs.declared.Expr.{Expr}
 use Rattle.qk_ast.specs.declared.Expr.TheVariants as e
@@ -11,16 +11,15 @@ use Rattle.qk_ast.specs.Characters.{Characters, same}
 use Rattle.qk_ast.specs.Tokens.{Token, is_tag_name}
 use Rattle.qk_ast.specs.JsxText.{jsx_text, decoded}
 use Rattle.qk_ast.specs.Grammar.{Element, Closed, Open, Fragment, Attributes, No_attribute, Set, Set_text, Set_value, Children, No_child, Text_child, Empty_child, Value_child, Element_child}
-use Rattle.qk_ast.specs.Spelling.{◌⨾◌, one, name as name_of, sign, begin, tokens, element_tokens, attributes_tokens, children_tokens}
-use Rattle.qk_ast.specs.Depth.{inside, depth, element_depth, attributes_depth, children_depth}
+use Rattle.qk_ast.specs.Spelling.{one, name as name_of, sign, begin, tokens, element_tokens, attributes_tokens, children_tokens}
+use Rattle.qk_ast.specs.Depth.{element_depth, attributes_depth, children_depth}
 use Rattle.qk_ast.specs.Tree.{arrows, bytes, tag_tree, before_children, element_tree, attributes_tree, children_tree}
 use Rattle.qk_ast.specs.Rules.{element_keeps, attributes_keep, children_keep}
-use Rattle.qk_reading.specs.Input.{Input, at, Outcome, Nested, Tagged, Untagged, Sign, ◌>>=◌, ◌>>◌, pure, peek, maybe, enter, look, advance, sees, after, sparse_from, sparse, many, name_that}
-use Rattle.qk_reading.specs.Reader.{nested, element, start_by, set_by, attribute, braced_by, child, child_text, children, tagged, tagged_by, untagged}
+use Rattle.qk_reading.specs.Input.{Input, at, Nested, Tagged, Untagged, Sign, ◌>>=◌, ◌>>◌, pure, peek, maybe, enter, look, advance, sees, sparse_from, sparse, many}
+use Rattle.qk_reading.specs.Reader.{nested, element, start_by, set_by, attribute, braced_by, child, child_text, children, tagged, untagged}
 use Rattle.qk_ast.proofs.FrontToken.{same_is}
 use Rattle.qk_reading.proofs.Framed.{framed, one_framed, name_framed, sign_framed, begin_framed, element_framed, attributes_framed, children_framed, ◌▹◌}
 use Rattle.qk_reading.proofs.Follow.{by_bool}
-use Rattle.qk_reading.proofs.Counted.{counted}
 use Rattle.qk_reading.proofs.Sound.{Sound, read, refused, sound_then, implied, Spans, spans_then, by_sees, expect_sound, enter_sound, name_sound, Maybe_read, Many, no_more, one_more, many_sound, Valued}
 
 -- an element behind the sign that it starts with

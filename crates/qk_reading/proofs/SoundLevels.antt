@@ -1,6 +1,6 @@
 -- What is read is written by the rules: the levels of binary operators, choices, arrows and steps, above postfix forms.
-use Rattle.std.proofs.Common.{true≢false, ◌≡◌, refl, sym, ◌∙◌, ap, ap₂, subst, arith, append_assoc, append-nil}
-use Rattle.std.specs.Prelude.{ℕ, zero, suc, ◌+◌, ◌≤◌, Bool, true, false, ◌&&◌, if◌then◌else◌, nat_le, List, [], ◌∷◌, ◌++◌, length, Option, Some, None, Ok, Err, codes}
+use Rattle.std.proofs.Common.{true≢false, ◌≡◌, refl, sym, ◌∙◌, ap, ap₂, subst, arith}
+use Rattle.std.specs.Prelude.{ℕ, suc, ◌+◌, ◌≤◌, Bool, true, false, ◌&&◌, if◌then◌else◌, nat_le, List, [], ◌∷◌, Option, Some, None, Ok, Err, codes}
 use Rattle.qk_ast.specs.declared.Form.{Form}
 use Rattle.qk_ast.specs.declared.Expr.{Expr}
 use Rattle.qk_ast.specs.declared.Expr.TheVariants as e
@@ -19,7 +19,7 @@ use Rattle.qk_ast.specs.Spelling.{un_sign, body_tokens, Writing, ◌⨾◌, sign
 use Rattle.qk_ast.specs.Depth.{inside, depth, operands_depth, body_depth}
 use Rattle.qk_ast.specs.Tree.{arrows, tree, operands_tree, body_tree}
 use Rattle.qk_ast.specs.Rules.{level_of, tightness_of, operand_tightness, binds, is_of_level, keeps, operands_keep, body_keeps}
-use Rattle.qk_reading.specs.Input.{maybe, pure, Input, Outcome, Reader, Nested, Read, reading, Chained, Prefixed, Loose, Sign, first_is, rest, advance, sees, number, Syntax, TooDeep, many_from, many, Tight}
+use Rattle.qk_reading.specs.Input.{maybe, Input, Outcome, Reader, Nested, Read, reading, Chained, Prefixed, Loose, Sign, first_is, rest, advance, sees, number, Syntax, TooDeep, many, Tight}
 use Rattle.qk_reading.specs.Reader.{bin_of, of_level, operator_at, operator, operand, chain, chained, product, sum, order, equality, conjunction, logic, logic_by, choice, arrow, arrow_head, arrow_ahead, whole, unary, postfix, nested, kind_tightness, later}
 use Rattle.qk_ast.proofs.FrontToken.{same_is}
 use Rattle.qk_reading.proofs.Framed.{Framed, framed, bin_framed, un_framed, parameters_framed, sign_framed, ◌▹◌}

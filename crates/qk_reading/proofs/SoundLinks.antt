@@ -7,16 +7,15 @@ use Rattle.qk_ast.specs.declared.Known.{Known}
 use Rattle.qk_ast.specs.declared.Known.TheVariants as known
 use Rattle.qk_ast.specs.declared.Link.{Link as Tree_link}
 use Rattle.qk_ast.specs.declared.Link.TheVariants as l
-use Rattle.qk_ast.specs.Characters.{Characters, same}
+use Rattle.qk_ast.specs.Characters.{same}
 use Rattle.qk_ast.specs.Tokens.{Token}
 use Rattle.qk_ast.specs.Grammar.{Word, Free, Taken, Expression, Named, Postfix, Link, Dot, Index, Call, Links, No_link, Next_link}
-use Rattle.qk_ast.specs.Spelling.{◌⨾◌, sign, tokens, word_tokens, link_tokens, links_tokens}
+use Rattle.qk_ast.specs.Spelling.{◌⨾◌, tokens, word_tokens, link_tokens, links_tokens}
 use Rattle.qk_ast.specs.Depth.{depth, link_depth, links_depth}
 use Rattle.qk_ast.specs.Tree.{arrows, word_text, link_tree, links_tree}
 use Rattle.qk_ast.specs.Rules.{link_keeps, links_keep, reads_as_known}
-use Rattle.qk_reading.specs.Input.{Input, at, ◌>>=◌, and_then, Nested, Read, Head, Kind, pure, peek, maybe, Sign}
-use Rattle.qk_reading.specs.Reader.{nested, known_ahead, dot_by, link, links_from, links, linked, plain_head, head, atom, postfix}
-use Rattle.qk_ast.proofs.FrontToken.{same_is}
+use Rattle.qk_reading.specs.Input.{Input, at, ◌>>=◌, Nested, Read, Head, Kind, pure, peek, maybe, Sign}
+use Rattle.qk_reading.specs.Reader.{nested, known_ahead, dot_by, link, links_from, links, linked, plain_head, head, postfix}
 use Rattle.qk_reading.proofs.Framed.{framed, link_framed, arguments_framed, sign_framed}
 use Rattle.qk_reading.proofs.Follow.{by_bool, clash}
 use Rattle.qk_reading.proofs.Counted.{counted, link_kind, last_kind}

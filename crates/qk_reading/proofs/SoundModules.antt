@@ -1,28 +1,26 @@
 -- What is read is written by the rules: imports, items and the module.
 use Rattle.std.proofs.Common.{◌≡◌, refl, sym, ◌∙◌, ap, ap₂, subst, arith, append_assoc, append-nil, true≢false}
-use Rattle.std.specs.Prelude.{ℕ, zero, suc, ◌+◌, ◌≤◌, ◌<◌, max, Bool, true, false, List, [], ◌∷◌, ◌++◌, map, length, Option, Some, None, Result, Ok, Err, codes}
-use Rattle.std.proofs.Math.Nat.{le-max_left, le-max_right}
+use Rattle.std.specs.Prelude.{ℕ, zero, suc, ◌+◌, ◌≤◌, Bool, true, false, List, [], ◌∷◌, ◌++◌, map, length, Option, Some, None, Result, Ok, Err, codes}
 use Rattle.qk_ast.specs.declared.Form.{Form}
 use Rattle.qk_ast.specs.declared.Module.{Module}
 use Rattle.qk_ast.specs.declared.Import.{Import}
 use Rattle.qk_ast.specs.declared.Item.{Item}
 use Rattle.qk_ast.specs.Characters.{Characters}
 use Rattle.qk_ast.specs.Tokens.{Token, Piece}
-use Rattle.qk_ast.specs.Grammar.{Expression, Import_line, Item_line, Module_text}
-use Rattle.qk_ast.specs.Spelling.{Writing, ◌⨾◌, one, name as name_of, word, sign, tokens, names_tokens, import_tokens, imports_tokens, item_tokens, items_tokens, module_tokens}
-use Rattle.qk_ast.specs.Depth.{depth, imports_depth, items_depth, module_depth}
-use Rattle.qk_ast.specs.Tree.{arrows, arrow_signs, bytes, value, tree, names_tree, import_tree, items_tree, module_tree}
-use Rattle.qk_ast.specs.Rules.{keeps, items_keep, module_keeps}
-use Rattle.qk_ast.specs.Derives.{Parses}
-use Rattle.qk_reading.specs.Input.{Input, at, Fault, Outcome, Reader, pure, maybe, ◌>>=◌, peek, Sign, Word, Given, is_end, many_from, many, advance, sees, after}
-use Rattle.qk_reading.specs.Reader.{text_by, import_line, next_import, item, item_by, next_item, nesting, module_of, outcome, read_module}
+use Rattle.qk_ast.specs.Grammar.{Expression, Import_line, Item_line}
+use Rattle.qk_ast.specs.Spelling.{◌⨾◌, one, sign, tokens, import_tokens, imports_tokens, item_tokens, items_tokens}
+use Rattle.qk_ast.specs.Depth.{depth, imports_depth, items_depth}
+use Rattle.qk_ast.specs.Tree.{arrows, arrow_signs, bytes, value, tree, import_tree, items_tree}
+use Rattle.qk_ast.specs.Rules.{keeps, items_keep}
+use Rattle.qk_reading.specs.Input.{Input, at, Fault, Outcome, pure, maybe, ◌>>=◌, peek, Sign, Word, Given, is_end, many_from, many, advance, sees}
+use Rattle.qk_reading.specs.Reader.{text_by, import_line, next_import, item, next_item, nesting, module_of, outcome, read_module}
 use Rattle.qk_reading.specs.Laws.{ParsesWithin}
 use Rattle.qk_reading.proofs.Framed.{Framed, framed, one_framed, name_framed, reserved_framed, sign_framed, semicolon_framed, nothing_framed, names_framed, ◌▹◌}
 use Rattle.qk_reading.proofs.Follow.{by_bool, clash}
 use Rattle.qk_reading.proofs.Counted.{counted}
 use Rattle.qk_reading.proofs.Patterns.{names_uncounted}
 use Rattle.qk_reading.proofs.Modules.{item_longer}
-use Rattle.qk_reading.proofs.Sound.{Sound, read, refused, sound_then, implied, Spans, spans_then, by_sees, expect_sound, name_sound, enter_sound, Maybe_read, Many, no_more, one_more, many_sound, Reading, max_le}
+use Rattle.qk_reading.proofs.Sound.{Sound, read, refused, sound_then, implied, Spans, spans_then, by_sees, expect_sound, name_sound, enter_sound, Maybe_read, Many, no_more, one_more, many_sound, max_le}
 use Rattle.qk_reading.proofs.SoundLists.{names_sound}
 use Rattle.qk_reading.proofs.SoundNesting.{wholes, nesting_sound}
 

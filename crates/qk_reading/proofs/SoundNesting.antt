@@ -1,9 +1,8 @@
 -- What is read is written by the rules, however deep it nests.
-use Rattle.std.proofs.Common.{◌≡◌, refl, arith}
-use Rattle.std.specs.Prelude.{ℕ, zero, suc, ◌+◌, ◌≤◌, Bool, true, false, codes}
+use Rattle.std.proofs.Common.{◌≡◌, arith}
+use Rattle.std.specs.Prelude.{ℕ, zero, suc, Bool, false, codes}
 use Rattle.qk_ast.specs.declared.Form.{Form}
-use Rattle.qk_ast.specs.Depth.{inside, depth}
-use Rattle.qk_reading.specs.Input.{Input, Nested, Read, Whole, Tight, Tagged, Untagged, Braced, Single, Otherwise, Sign, sees}
+use Rattle.qk_reading.specs.Input.{Input, Nested, Whole, Tight, Tagged, Untagged, Braced, Single, Otherwise, Sign, sees}
 use Rattle.qk_reading.specs.Reader.{nested, element, unary, postfix, whole, step, tagged, untagged, body, block, single, group, nesting}
 use Rattle.qk_reading.proofs.Sound.{Sound, read, refused, sound_then, Reading, Valued}
 use Rattle.qk_reading.proofs.SoundElements.{Element_read, start_sound, tagged_sound, untagged_sound}

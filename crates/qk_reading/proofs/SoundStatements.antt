@@ -1,8 +1,7 @@
 -- What is read is written by the rules: statements that hold no other.
-use Rattle.std.proofs.Common.{◌≡◌, refl, sym, ◌∙◌, ap, ap₂, subst, arith, true≢false}
-use Rattle.std.specs.Prelude.{ℕ, suc, ◌+◌, ◌≤◌, max, Bool, true, false, ◌||◌, List, [], ◌∷◌, map, Option, Some, None, codes}
+use Rattle.std.proofs.Common.{◌≡◌, refl, sym, ◌∙◌, ap, ap₂, subst, arith}
+use Rattle.std.specs.Prelude.{ℕ, suc, ◌≤◌, Bool, true, false, ◌||◌, List, [], ◌∷◌, map, Some, codes}
 use Rattle.qk_ast.specs.declared.Form.{Form}
-use Rattle.qk_ast.specs.declared.Expr.{Expr}
 use Rattle.qk_ast.specs.declared.Pattern.{Pattern}
 use Rattle.qk_ast.specs.declared.Pattern.TheVariants as p
 use Rattle.qk_ast.specs.declared.Stmt.{Stmt}
@@ -10,15 +9,15 @@ use Rattle.qk_ast.specs.declared.Stmt.TheVariants as s
 use Rattle.qk_ast.specs.Characters.{Characters}
 use Rattle.qk_ast.specs.Tokens.{Token}
 use Rattle.qk_ast.specs.Grammar.{Statement, Const, Scope, Let, Return, Return_step, Break, Continue, Delete, Do}
-use Rattle.qk_ast.specs.Spelling.{Writing, ◌⨾◌, nothing, name as name_of, word, sign, round, square, comma, tokens, binding_tokens, scope_tokens, step_tokens, statement_tokens}
+use Rattle.qk_ast.specs.Spelling.{◌⨾◌, name as name_of, word, sign, comma, scope_tokens, step_tokens, statement_tokens}
 use Rattle.qk_ast.specs.Depth.{statement_depth}
-use Rattle.qk_ast.specs.Tree.{arrows, arrow_signs, bytes, tree, statement_tree}
-use Rattle.qk_ast.specs.Rules.{statement_keeps, is_member, is_built, ends_with_if, may_be_part}
-use Rattle.qk_reading.specs.Input.{Input, Nested, Read, Mark, Sign, Word, Given, first_is, advance, sees, after, many}
-use Rattle.qk_reading.specs.Reader.{is_member_kind, comma_name, scope, scope_call, declared, variable, ended, returned, delete_by, deleted, done, whole, step, postfix}
-use Rattle.qk_reading.proofs.Framed.{Framed, framed, name_framed, reserved_framed, sign_framed, comma_framed, binding_framed, scope_framed, step_framed, ◌▹◌}
+use Rattle.qk_ast.specs.Tree.{bytes, statement_tree}
+use Rattle.qk_ast.specs.Rules.{statement_keeps, is_built, ends_with_if, may_be_part}
+use Rattle.qk_reading.specs.Input.{Input, Nested, Read, Sign, Word, Given, first_is, advance, sees, many}
+use Rattle.qk_reading.specs.Reader.{is_member_kind, comma_name, scope, scope_call, declared, variable, ended, returned, deleted, done, whole, step, postfix}
+use Rattle.qk_reading.proofs.Framed.{framed, name_framed, reserved_framed, sign_framed, comma_framed, binding_framed, scope_framed, step_framed, ◌▹◌}
 use Rattle.qk_reading.proofs.Follow.{by_bool, clash}
-use Rattle.qk_reading.proofs.Counted.{counted, member_kind}
+use Rattle.qk_reading.proofs.Counted.{member_kind}
 use Rattle.qk_reading.proofs.Patterns.{binding_uncounted}
 use Rattle.qk_reading.proofs.Sound.{Sound, read, refused, sound_then, implied, Spans, spans_then, by_sees, expect_sound, name_sound, enter_sound, Maybe_read, Many, no_more, one_more, many_sound, Reading}
 use Rattle.qk_reading.proofs.SoundLists.{Binding_read, pattern_sound}

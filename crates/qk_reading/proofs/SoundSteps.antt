@@ -1,28 +1,27 @@
 -- What is read is written by the rules: steps and bodies.
 use Rattle.std.proofs.Common.{◌≡◌, refl, sym, ◌∙◌, ap, ap₂, subst, arith, true≢false}
-use Rattle.std.specs.Prelude.{ℕ, suc, ◌+◌, ◌≤◌, max, Bool, true, false, if◌then◌else◌, List, [], ◌∷◌, ◌++◌, Option, Some, None, codes}
+use Rattle.std.specs.Prelude.{ℕ, suc, ◌+◌, ◌≤◌, Bool, true, false, List, [], ◌∷◌, ◌++◌, Option, Some, None, codes}
 use Rattle.qk_ast.specs.declared.Form.{Form}
 use Rattle.qk_ast.specs.declared.Expr.{Expr}
 use Rattle.qk_ast.specs.declared.Expr.TheVariants as e
 use Rattle.qk_ast.specs.declared.Stmt.{Stmt}
-use Rattle.qk_ast.specs.declared.Body.{Body as Tree_body}
 use Rattle.qk_ast.specs.declared.Body.TheVariants as b
 use Rattle.qk_ast.specs.declared.AssignOp.{AssignOp}
 use Rattle.qk_ast.specs.declared.AssignOp.TheVariants as assign
-use Rattle.qk_ast.specs.Characters.{Characters, same}
+use Rattle.qk_ast.specs.Characters.{same}
 use Rattle.qk_ast.specs.Tokens.{Token}
-use Rattle.qk_ast.specs.Grammar.{Expression, Step, Plain_step, Assign, Bump, Statements, Block_body, Step_body}
+use Rattle.qk_ast.specs.Grammar.{Step, Plain_step, Assign, Bump, Statements, Block_body, Step_body}
 use Rattle.qk_ast.specs.Spelling.{Writing, ◌⨾◌, sign, tokens, assign_sign as assign_spelt, bump_sign as bump_spelt, step_tokens, statements_tokens}
-use Rattle.qk_ast.specs.Depth.{inside, depth, step_depth, statements_depth}
-use Rattle.qk_ast.specs.Tree.{arrows, tree, step_tree, statements_tree}
+use Rattle.qk_ast.specs.Depth.{inside, step_depth, statements_depth}
+use Rattle.qk_ast.specs.Tree.{arrows, step_tree, statements_tree}
 use Rattle.qk_ast.specs.Rules.{is_target, begins_with_brace, step_keeps, statements_keep}
-use Rattle.qk_reading.specs.Input.{Input, at, Nested, Read, Sign, Braced, Reader, maybe, first_is, rest, advance, sees, after}
-use Rattle.qk_reading.specs.Reader.{is_target_kind, assign_of, assign_at, bump_of, bump_at, assign_sign, bump_sign, assign_by, whole, step, step_by, body}
+use Rattle.qk_reading.specs.Input.{Input, Nested, Read, Sign, Braced, maybe, first_is, rest, advance, sees}
+use Rattle.qk_reading.specs.Reader.{is_target_kind, assign_at, bump_at, assign_sign, bump_sign, assign_by, whole, step, step_by, body}
 use Rattle.qk_ast.proofs.FrontToken.{same_is}
-use Rattle.qk_reading.proofs.Framed.{Framed, framed, assign_framed, step_framed, statements_framed, sign_framed, ◌▹◌}
-use Rattle.qk_reading.proofs.Follow.{by_bool, clash}
-use Rattle.qk_reading.proofs.Counted.{counted, kind, target_kind}
-use Rattle.qk_reading.proofs.Sound.{Sound, read, refused, sound_then, implied, Spans, spans_then, by_sees, mark_seen, Reading}
+use Rattle.qk_reading.proofs.Framed.{Framed, framed, assign_framed, step_framed, sign_framed}
+use Rattle.qk_reading.proofs.Follow.{by_bool}
+use Rattle.qk_reading.proofs.Counted.{target_kind}
+use Rattle.qk_reading.proofs.Sound.{Sound, read, sound_then, Spans, spans_then, by_sees, Reading}
 use Rattle.qk_reading.proofs.SoundLevels.{Body_read}
 
 -- ---- signs
