@@ -38,63 +38,30 @@ some_is {a = a} e = ap (λ o. maybe o a (λ x. x)) e
 none_some : {A : Type 0} {P : Type 0} {a : A} → None ≡ Some a → P
 none_some e = absurd (true≢false (sym (ap (λ o. maybe o false (λ _. true)) e)))
 
-first_Or : (a : Characters) → (same a (codes "||") ≡ true) → Some bin.Or ≡ bin_of a
-first_Or a e = rw (e) refl
+-- the operator that a sign is
+abbrev Spelt : Characters → List Token → Option Bin → Type 0
+Spelt a ts None = Unit {0}
+Spelt a ts (Some op) = bin_sign op ts ≡ Token.Punct a ∷ ts
 
-first_And : (a : Characters) → (same a (codes "||") ≡ false) × (same a (codes "&&") ≡ true) → Some bin.And ≡ bin_of a
-first_And a e = rw (e.0, e.1) refl
+same_sign : (s a : Characters) (ts : List Token) → same a s ≡ true → Token.Punct s ∷ ts ≡ Token.Punct a ∷ ts
+same_sign s a ts h = ap (λ c. Token.Punct c ∷ ts) (sym (same_is a s h))
 
-first_Coalesce : (a : Characters) → (same a (codes "||") ≡ false) × (same a (codes "&&") ≡ false) × (same a (codes "??") ≡ true) → Some bin.Coalesce ≡ bin_of a
-first_Coalesce a e = rw (e.0, e.1, e.2) refl
-
-first_Same : (a : Characters) → (same a (codes "||") ≡ false) × (same a (codes "&&") ≡ false) × (same a (codes "??") ≡ false) × (same a (codes "===") ≡ true) → Some bin.Same ≡ bin_of a
-first_Same a e = rw (e.0, e.1, e.2, e.3) refl
-
-first_NotSame : (a : Characters) → (same a (codes "||") ≡ false) × (same a (codes "&&") ≡ false) × (same a (codes "??") ≡ false) × (same a (codes "===") ≡ false) × (same a (codes "!==") ≡ true) → Some bin.NotSame ≡ bin_of a
-first_NotSame a e = rw (e.0, e.1, e.2, e.3, e.4) refl
-
-first_Less : (a : Characters) → (same a (codes "||") ≡ false) × (same a (codes "&&") ≡ false) × (same a (codes "??") ≡ false) × (same a (codes "===") ≡ false) × (same a (codes "!==") ≡ false) × (same a (codes "<") ≡ true) → Some bin.Less ≡ bin_of a
-first_Less a e = rw (e.0, e.1, e.2, e.3, e.4, e.5) refl
-
-first_LessEq : (a : Characters) → (same a (codes "||") ≡ false) × (same a (codes "&&") ≡ false) × (same a (codes "??") ≡ false) × (same a (codes "===") ≡ false) × (same a (codes "!==") ≡ false) × (same a (codes "<") ≡ false) × (same a (codes "<=") ≡ true) → Some bin.LessEq ≡ bin_of a
-first_LessEq a e = rw (e.0, e.1, e.2, e.3, e.4, e.5, e.6) refl
-
-first_More : (a : Characters) → (same a (codes "||") ≡ false) × (same a (codes "&&") ≡ false) × (same a (codes "??") ≡ false) × (same a (codes "===") ≡ false) × (same a (codes "!==") ≡ false) × (same a (codes "<") ≡ false) × (same a (codes "<=") ≡ false) × (same a (codes ">") ≡ true) → Some bin.More ≡ bin_of a
-first_More a e = rw (e.0, e.1, e.2, e.3, e.4, e.5, e.6, e.7) refl
-
-first_MoreEq : (a : Characters) → (same a (codes "||") ≡ false) × (same a (codes "&&") ≡ false) × (same a (codes "??") ≡ false) × (same a (codes "===") ≡ false) × (same a (codes "!==") ≡ false) × (same a (codes "<") ≡ false) × (same a (codes "<=") ≡ false) × (same a (codes ">") ≡ false) × (same a (codes ">=") ≡ true) → Some bin.MoreEq ≡ bin_of a
-first_MoreEq a e = rw (e.0, e.1, e.2, e.3, e.4, e.5, e.6, e.7, e.8) refl
-
-first_Add : (a : Characters) → (same a (codes "||") ≡ false) × (same a (codes "&&") ≡ false) × (same a (codes "??") ≡ false) × (same a (codes "===") ≡ false) × (same a (codes "!==") ≡ false) × (same a (codes "<") ≡ false) × (same a (codes "<=") ≡ false) × (same a (codes ">") ≡ false) × (same a (codes ">=") ≡ false) × (same a (codes "+") ≡ true) → Some bin.Add ≡ bin_of a
-first_Add a e = rw (e.0, e.1, e.2, e.3, e.4, e.5, e.6, e.7, e.8, e.9) refl
-
-first_Sub : (a : Characters) → (same a (codes "||") ≡ false) × (same a (codes "&&") ≡ false) × (same a (codes "??") ≡ false) × (same a (codes "===") ≡ false) × (same a (codes "!==") ≡ false) × (same a (codes "<") ≡ false) × (same a (codes "<=") ≡ false) × (same a (codes ">") ≡ false) × (same a (codes ">=") ≡ false) × (same a (codes "+") ≡ false) × (same a (codes "-") ≡ true) → Some bin.Sub ≡ bin_of a
-first_Sub a e = rw (e.0, e.1, e.2, e.3, e.4, e.5, e.6, e.7, e.8, e.9, e.10) refl
-
-first_Mul : (a : Characters) → (same a (codes "||") ≡ false) × (same a (codes "&&") ≡ false) × (same a (codes "??") ≡ false) × (same a (codes "===") ≡ false) × (same a (codes "!==") ≡ false) × (same a (codes "<") ≡ false) × (same a (codes "<=") ≡ false) × (same a (codes ">") ≡ false) × (same a (codes ">=") ≡ false) × (same a (codes "+") ≡ false) × (same a (codes "-") ≡ false) × (same a (codes "*") ≡ true) → Some bin.Mul ≡ bin_of a
-first_Mul a e = rw (e.0, e.1, e.2, e.3, e.4, e.5, e.6, e.7, e.8, e.9, e.10, e.11) refl
-
-first_Rem : (a : Characters) → (same a (codes "||") ≡ false) × (same a (codes "&&") ≡ false) × (same a (codes "??") ≡ false) × (same a (codes "===") ≡ false) × (same a (codes "!==") ≡ false) × (same a (codes "<") ≡ false) × (same a (codes "<=") ≡ false) × (same a (codes ">") ≡ false) × (same a (codes ">=") ≡ false) × (same a (codes "+") ≡ false) × (same a (codes "-") ≡ false) × (same a (codes "*") ≡ false) × (same a (codes "%") ≡ true) → Some bin.Rem ≡ bin_of a
-first_Rem a e = rw (e.0, e.1, e.2, e.3, e.4, e.5, e.6, e.7, e.8, e.9, e.10, e.11, e.12) refl
-
-no_bin : (a : Characters) → (same a (codes "||") ≡ false) × (same a (codes "&&") ≡ false) × (same a (codes "??") ≡ false) × (same a (codes "===") ≡ false) × (same a (codes "!==") ≡ false) × (same a (codes "<") ≡ false) × (same a (codes "<=") ≡ false) × (same a (codes ">") ≡ false) × (same a (codes ">=") ≡ false) × (same a (codes "+") ≡ false) × (same a (codes "-") ≡ false) × (same a (codes "*") ≡ false) × (same a (codes "%") ≡ false) → None ≡ bin_of a
-no_bin a e = rw (e.0, e.1, e.2, e.3, e.4, e.5, e.6, e.7, e.8, e.9, e.10, e.11, e.12) refl
-
-bin_spelt : (a : Characters) (op : Bin) (ts : List Token) → bin_of a ≡ Some op → bin_sign op ts ≡ Token.Punct a ∷ ts
-bin_spelt a op ts h = by_bool (same a (codes "||")) (λ e0. subst (λ op. bin_sign op ts ≡ Token.Punct a ∷ ts) (some_is (first_Or a (e0) ∙ h)) (ap (λ c. Token.Punct c ∷ ts) (sym (same_is a (codes "||") e0)))) (λ e0.
-    by_bool (same a (codes "&&")) (λ e1. subst (λ op. bin_sign op ts ≡ Token.Punct a ∷ ts) (some_is (first_And a (e0, e1) ∙ h)) (ap (λ c. Token.Punct c ∷ ts) (sym (same_is a (codes "&&") e1)))) (λ e1.
-    by_bool (same a (codes "??")) (λ e2. subst (λ op. bin_sign op ts ≡ Token.Punct a ∷ ts) (some_is (first_Coalesce a (e0, e1, e2) ∙ h)) (ap (λ c. Token.Punct c ∷ ts) (sym (same_is a (codes "??") e2)))) (λ e2.
-    by_bool (same a (codes "===")) (λ e3. subst (λ op. bin_sign op ts ≡ Token.Punct a ∷ ts) (some_is (first_Same a (e0, e1, e2, e3) ∙ h)) (ap (λ c. Token.Punct c ∷ ts) (sym (same_is a (codes "===") e3)))) (λ e3.
-    by_bool (same a (codes "!==")) (λ e4. subst (λ op. bin_sign op ts ≡ Token.Punct a ∷ ts) (some_is (first_NotSame a (e0, e1, e2, e3, e4) ∙ h)) (ap (λ c. Token.Punct c ∷ ts) (sym (same_is a (codes "!==") e4)))) (λ e4.
-    by_bool (same a (codes "<")) (λ e5. subst (λ op. bin_sign op ts ≡ Token.Punct a ∷ ts) (some_is (first_Less a (e0, e1, e2, e3, e4, e5) ∙ h)) (ap (λ c. Token.Punct c ∷ ts) (sym (same_is a (codes "<") e5)))) (λ e5.
-    by_bool (same a (codes "<=")) (λ e6. subst (λ op. bin_sign op ts ≡ Token.Punct a ∷ ts) (some_is (first_LessEq a (e0, e1, e2, e3, e4, e5, e6) ∙ h)) (ap (λ c. Token.Punct c ∷ ts) (sym (same_is a (codes "<=") e6)))) (λ e6.
-    by_bool (same a (codes ">")) (λ e7. subst (λ op. bin_sign op ts ≡ Token.Punct a ∷ ts) (some_is (first_More a (e0, e1, e2, e3, e4, e5, e6, e7) ∙ h)) (ap (λ c. Token.Punct c ∷ ts) (sym (same_is a (codes ">") e7)))) (λ e7.
-    by_bool (same a (codes ">=")) (λ e8. subst (λ op. bin_sign op ts ≡ Token.Punct a ∷ ts) (some_is (first_MoreEq a (e0, e1, e2, e3, e4, e5, e6, e7, e8) ∙ h)) (ap (λ c. Token.Punct c ∷ ts) (sym (same_is a (codes ">=") e8)))) (λ e8.
-    by_bool (same a (codes "+")) (λ e9. subst (λ op. bin_sign op ts ≡ Token.Punct a ∷ ts) (some_is (first_Add a (e0, e1, e2, e3, e4, e5, e6, e7, e8, e9) ∙ h)) (ap (λ c. Token.Punct c ∷ ts) (sym (same_is a (codes "+") e9)))) (λ e9.
-    by_bool (same a (codes "-")) (λ e10. subst (λ op. bin_sign op ts ≡ Token.Punct a ∷ ts) (some_is (first_Sub a (e0, e1, e2, e3, e4, e5, e6, e7, e8, e9, e10) ∙ h)) (ap (λ c. Token.Punct c ∷ ts) (sym (same_is a (codes "-") e10)))) (λ e10.
-    by_bool (same a (codes "*")) (λ e11. subst (λ op. bin_sign op ts ≡ Token.Punct a ∷ ts) (some_is (first_Mul a (e0, e1, e2, e3, e4, e5, e6, e7, e8, e9, e10, e11) ∙ h)) (ap (λ c. Token.Punct c ∷ ts) (sym (same_is a (codes "*") e11)))) (λ e11.
-    by_bool (same a (codes "%")) (λ e12. subst (λ op. bin_sign op ts ≡ Token.Punct a ∷ ts) (some_is (first_Rem a (e0, e1, e2, e3, e4, e5, e6, e7, e8, e9, e10, e11, e12) ∙ h)) (ap (λ c. Token.Punct c ∷ ts) (sym (same_is a (codes "%") e12)))) (λ e12.
-    none_some (no_bin a (e0, e1, e2, e3, e4, e5, e6, e7, e8, e9, e10, e11, e12) ∙ h))))))))))))))
+bin_spelt : (a : Characters) (ts : List Token) → Spelt a ts (bin_of a)
+bin_spelt a ts =
+    by_bool (same a (codes "||")) (λ h. rw h (same_sign (codes "||") a ts h)) (λ h1.
+    by_bool (same a (codes "&&")) (λ h. rw (h1, h) (same_sign (codes "&&") a ts h)) (λ h2.
+    by_bool (same a (codes "??")) (λ h. rw (h1, h2, h) (same_sign (codes "??") a ts h)) (λ h3.
+    by_bool (same a (codes "===")) (λ h. rw (h1, h2, h3, h) (same_sign (codes "===") a ts h)) (λ h4.
+    by_bool (same a (codes "!==")) (λ h. rw (h1, h2, h3, h4, h) (same_sign (codes "!==") a ts h)) (λ h5.
+    by_bool (same a (codes "<")) (λ h. rw (h1, h2, h3, h4, h5, h) (same_sign (codes "<") a ts h)) (λ h6.
+    by_bool (same a (codes "<=")) (λ h. rw (h1, h2, h3, h4, h5, h6, h) (same_sign (codes "<=") a ts h)) (λ h7.
+    by_bool (same a (codes ">")) (λ h. rw (h1, h2, h3, h4, h5, h6, h7, h) (same_sign (codes ">") a ts h)) (λ h8.
+    by_bool (same a (codes ">=")) (λ h. rw (h1, h2, h3, h4, h5, h6, h7, h8, h) (same_sign (codes ">=") a ts h)) (λ h9.
+    by_bool (same a (codes "+")) (λ h. rw (h1, h2, h3, h4, h5, h6, h7, h8, h9, h) (same_sign (codes "+") a ts h)) (λ h10.
+    by_bool (same a (codes "-")) (λ h. rw (h1, h2, h3, h4, h5, h6, h7, h8, h9, h10, h) (same_sign (codes "-") a ts h)) (λ h11.
+    by_bool (same a (codes "*")) (λ h. rw (h1, h2, h3, h4, h5, h6, h7, h8, h9, h10, h11, h) (same_sign (codes "*") a ts h)) (λ h12.
+    by_bool (same a (codes "%")) (λ h. rw (h1, h2, h3, h4, h5, h6, h7, h8, h9, h10, h11, h12, h) (same_sign (codes "%") a ts h)) (λ h13.
+    rw (h1, h2, h3, h4, h5, h6, h7, h8, h9, h10, h11, h12, h13) tt)))))))))))))
 
 level_is : (level : Level) (op : Bin) → is_of_level level op ≡ true → level ≡ level_of op
 level_is Or_level bin.Or h = refl
@@ -122,7 +89,7 @@ operator_seen level (Token.Punct a ∷ ts) op h = go (bin_of a) refl h
     go None e h = none_some h
     go (Some p) e h = by_bool (is_of_level level p)
         (λ s. let q : p ≡ op = some_is (sym (ap (λ b. if b then Some p else None) s) ∙ h) in
-        (subst (λ op. is_of_level level op ≡ true) q s, bin_spelt a op ts (e ∙ ap (λ p. Some p) q)))
+        (subst (λ op. is_of_level level op ≡ true) q s, subst (λ op. bin_sign op ts ≡ Token.Punct a ∷ ts) q (subst (λ o. Spelt a ts o) e (bin_spelt a ts))))
         (λ s. none_some (sym (ap (λ b. if b then Some p else None) s) ∙ h))
 operator_seen level (t ∷ ts) op h = none_some h
 
