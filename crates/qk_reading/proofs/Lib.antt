@@ -1,4 +1,4 @@
-mod ReaderRows
+mod Texts
 mod Framed
 mod Follow
 mod Reached
