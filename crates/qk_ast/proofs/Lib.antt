@@ -3,7 +3,7 @@ pub mod FirstDerives
 mod Fragment
 mod Refused
 pub mod FrontToken
-mod Pieces
-mod OneToken
-mod OneTagToken
+pub mod Pieces
+pub mod OneToken
+pub mod OneTagToken
 pub mod OneTokenList

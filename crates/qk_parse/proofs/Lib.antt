@@ -1,0 +1,12 @@
+pub mod Answered
+pub mod Complete
+pub mod Names
+pub mod One
+pub mod Pieces
+pub mod Plain
+pub mod Sound
+pub mod Standing
+pub mod Steps
+pub mod Trees
+pub mod Turns
+pub mod Words

@@ -1,0 +1,215 @@
+-- The clauses of the top call, from what comes of the command and how its last line is put.
+use Rattle.std.proofs.Common.{◌≡◌, ◌≤◌, ◌<◌, ℕ, suc, List, [], ◌∷◌, ◌++◌, refl, sym, ap, ◌∙◌, subst, take, append-nil, arith, Option, Some, None, ◌⊎◌, inl, inr}
+use Rattle.std.specs.Prelude.{Result, Ok, Err, codes}
+use Rattle.std.specs.Option.{option_map}
+use Rattle.qk_ast.specs.declared.Module.{Module}
+use Rattle.qk_ast.specs.First.{HasFirstForm}
+use Rattle.qk_store.specs.Files.{Files}
+use Rattle.qk_store.specs.Causes.{Rose}
+use Rattle.qk_store.specs.Pieces.{with_piece, AppendsFront}
+use Rattle.qk_meaning.specs.Value.{Text}
+use Rattle.qk_meaning.specs.Output.{line}
+use Rattle.qk_top.specs.declared.stop.ScriptRefusal.TheVariants as scripts
+use Rattle.qk_top.specs.declared.stop.ApplicationRefusal.TheVariants as application
+use Rattle.qk_top.specs.declared.stop.Stop.{Stop}
+use Rattle.qk_top.specs.declared.stop.Stop.TheVariants.{Usage, Script, Application, StoreFailed, SinkFailed, Memory}
+use Rattle.qk_top.specs.Words.{IsReplay}
+use Rattle.qk_top.specs.Script.{IsFirstScript}
+use Rattle.qk_top.specs.Answers.{root_name, IsUsage, Plays, RefusedScript, gone_script, refused_script, RefusedApplication, gone_root, refused_root, IsAccepted, IsOutput, Answers, played, usage, application as refused_application, script, store_failed, memory, memory_alone}
+use Rattle.qk_top.specs.Stops.{status_of, last_line_of, EndsForFaults, IsPut, PutsLastLine, whole, in_part, in_want, Finishes}
+use Rattle.qk_top.specs.Coming.{CommandPlays, CommandComes}
+use Rattle.qk_top.specs.Run.{IsOneOf, Comes}
+use Rattle.qk_top.proofs.Plays.{front_behind, pieces_join}
+use Rattle.qk_parse.proofs.One.{one_first}
+use Rattle.qk_top.proofs.Scripts.{one_clicks}
+
+put_nothing : (o : Option (List ℕ)) → o ≡ option_map (with_piece []) o
+put_nothing None = refl
+put_nothing (Some b) = ap Some (sym (append-nil b))
+
+eight_seven : (status : ℕ) → status ≡ 8 → status ≡ 7 → ⊥
+eight_seven status e f = omega arith
+
+-- ---- small facts
+
+not_both : (o : Option Text) (t : Text) → o ≡ Some t → o ≡ None → ⊥
+not_both o t h k = cc
+
+same_some : (a b : Text) → Some a ≡ Some b → a ≡ b
+same_some a b h = cc
+
+same_script : (words : List Text) (a b : Text) → IsReplay words a → IsReplay words b → a ≡ b
+same_script words a b h k = let e = h.words_are in let f = k.words_are in cc
+
+apart : ◌≡◌ {A = Result (Unit {0}) Stop} (Err Memory) (Err SinkFailed) → ⊥
+apart e = cc
+
+last_line_status : (stop : Stop) (between after : Option Text) (f g status : ℕ) → PutsLastLine stop between after f g status → IsOneOf status (status_of stop ∷ 7 ∷ 8 ∷ [])
+last_line_status stop between after f g status (whole e put kept) = inl e
+last_line_status stop between after f g status (in_part e front rose later) = inr (inl e)
+last_line_status stop between after f g status (in_want e kept faults) = inr (inr (inl e))
+
+with_outside : (own status : ℕ) → IsOneOf status (own ∷ 7 ∷ 8 ∷ []) → IsOneOf status (own ∷ 6 ∷ 7 ∷ 8 ∷ [])
+with_outside own status (inl e) = inl e
+with_outside own status (inr more) = inr (inr more)
+
+from_memory : (status : ℕ) → IsOneOf status (8 ∷ 7 ∷ 8 ∷ []) → IsOneOf status (6 ∷ 7 ∷ 8 ∷ [])
+from_memory status (inl e) = inr (inr (inl e))
+from_memory status (inr (inl e)) = inr (inl e)
+from_memory status (inr (inr (inl e))) = inr (inr (inl e))
+from_memory status (inr (inr (inr e))) = absurd e
+
+outside_comes : {words : List Text} {told : Files} (status : ℕ) → IsOneOf status (6 ∷ 7 ∷ 8 ∷ []) → Comes words told status
+outside_comes status h = record { accepted = λ m ids a. inr h; application = λ kind r. inr h; script = λ kind r. inr h }
+
+memory_complete : (between after : Option Text) (f g h status : ℕ) → PutsLastLine Memory between after g h status → g ≡ f → ¬ Rose f h → (status ≡ 0) ⊎ (status ≡ 8)
+memory_complete between after f g h status (whole e put kept) same none = inr e
+memory_complete between after f g h status (in_part e front rose later) same none = absurd (none (subst (λ x. Rose x h) same rose))
+memory_complete between after f g h status (in_want e kept faults) same none = inr e
+
+-- a script clicks at one list of ids
+one_script : (text : Text) (ids others : List Text) → IsFirstScript text ids → IsFirstScript text others → ids ≡ others
+one_script text ids others a b = one_clicks text ids others a.words b.words a.spelled b.spelled
+
+-- an answer that stops a command before anything is put
+module _ (words : List Text) (told : Files) where
+  Whole : Option Text → Option Text → ℕ → Type 0
+  Whole before after status = (text : Text) × Answers words told status text × IsPut text before after
+
+  Front : Option Text → Option Text → Type 0
+  Front before after = (other : ℕ) × (text : Text) × Answers words told other text × AppendsFront text before after
+
+  -- a last line behind nothing
+  quiet_whole : (stop : Stop) (before between after : Option Text) (f g status : ℕ) → Answers words told (status_of stop) (last_line_of stop) → between ≡ before → PutsLastLine stop between after f g status → ¬ (status ≡ 7) → Whole before after status
+  unfolding Whole
+  quiet_whole stop before between after f g status answer same (whole e put kept) other =
+      (last_line_of stop, subst (λ s. Answers words told s (last_line_of stop)) (sym e) answer, put ∙ ap (option_map (with_piece (last_line_of stop))) same)
+  quiet_whole stop before between after f g status answer same (in_part e front rose later) other = absurd (other e)
+  quiet_whole stop before between after f g status answer same (in_want e kept faults) other =
+      (take 0 (last_line_of stop), subst (λ s. Answers words told s (take 0 (last_line_of stop))) (sym e) (memory_alone 0 answer), kept ∙ same ∙ put_nothing before)
+
+  quiet_front : (stop : Stop) (before between after : Option Text) (f g status : ℕ) → Answers words told (status_of stop) (last_line_of stop) → between ≡ before → PutsLastLine stop between after f g status → status ≡ 7 → ¬ (status_of stop ≡ 7) → Front before after
+  unfolding Front
+  quiet_front stop before between after f g status answer same (whole e put kept) seven other = absurd (other (sym e ∙ seven))
+  quiet_front stop before between after f g status answer same (in_part e front rose later) seven other = (status_of stop, last_line_of stop, answer, subst (λ b. AppendsFront (last_line_of stop) b after) same front)
+  quiet_front stop before between after f g status answer same (in_want e kept faults) seven other = absurd (eight_seven status e seven)
+
+  -- the line `memory` behind a front of what was played
+  memory_whole : (before between after : Option Text) (f g status n : ℕ) (text : Text) {was : ℕ} → Answers words told was text → between ≡ option_map (with_piece (take n text)) before → PutsLastLine Memory between after f g status → ¬ (status ≡ 7) → Whole before after status
+  unfolding Whole
+  memory_whole before between after f g status n text answer part (whole e put kept) other =
+      (take n text ++ last_line_of Memory, subst (λ s. Answers words told s (take n text ++ last_line_of Memory)) (sym e) (memory n answer),
+       put ∙ ap (option_map (with_piece (last_line_of Memory))) part ∙ pieces_join (take n text) (last_line_of Memory) before)
+  memory_whole before between after f g status n text answer part (in_part e front rose later) other = absurd (other e)
+  memory_whole before between after f g status n text answer part (in_want e kept faults) other =
+      (take n text, subst (λ s. Answers words told s (take n text)) (sym e) (memory_alone n answer), kept ∙ part)
+
+  memory_front : (before between after : Option Text) (f g status n : ℕ) (text : Text) {was : ℕ} → Answers words told was text → between ≡ option_map (with_piece (take n text)) before → PutsLastLine Memory between after f g status → status ≡ 7 → Front before after
+  unfolding Front
+  memory_front before between after f g status n text answer part (whole e put kept) seven = absurd (eight_seven status e seven)
+  memory_front before between after f g status n text answer part (in_part e front rose later) seven =
+      (8, take n text ++ last_line_of Memory, memory n answer, front_behind (take n text) (last_line_of Memory) (take n text ++ last_line_of Memory) before between after part front refl)
+  memory_front before between after f g status n text answer part (in_want e kept faults) seven = absurd (eight_seven status e seven)
+
+  accepted_answer : (text : Text) → CommandPlays words told text → Answers words told 0 text
+  accepted_answer text plays = played plays.accepted plays.printed
+
+  -- ---- what is printed where the command ended before all was done
+
+  pub printed_whole : (stop : Stop) (before between after : Option Text) (f g status : ℕ) → CommandComes words told before between (Err stop) → Finishes stop between after f g status → ¬ (status ≡ 7)
+      → (text : Text) × Answers words told status text × IsPut text before after
+  unfolding Whole
+  printed_whole Usage before between after f g status comes ends other = quiet_whole Usage before between after f g status (usage comes.0) comes.1 ends other
+  printed_whole (Script kind) before between after f g status comes ends other = quiet_whole (Script kind) before between after f g status (script comes.0) comes.1 ends other
+  printed_whole (Application kind) before between after f g status comes ends other = quiet_whole (Application kind) before between after f g status (refused_application comes.0) comes.1 ends other
+  printed_whole StoreFailed before between after f g status comes ends other = quiet_whole StoreFailed before between after f g status store_failed comes ends other
+  printed_whole SinkFailed before between after f g status comes ends other = absurd (other ends.0)
+  printed_whole Memory before between after f g status (inl same) ends other =
+      memory_whole before between after f g status 0 (line (codes "store failed")) store_failed (same ∙ put_nothing before) ends other
+  printed_whole Memory before between after f g status (inr part) ends other =
+      memory_whole before between after f g status part.2.taken part.0 (accepted_answer part.0 part.1) part.2.appended ends other
+
+  pub printed_front : (stop : Stop) (before between after : Option Text) (f g status : ℕ) → CommandComes words told before between (Err stop) → Finishes stop between after f g status → status ≡ 7
+      → (other : ℕ) × (text : Text) × Answers words told other text × AppendsFront text before after
+  unfolding Front
+  printed_front Usage before between after f g status comes ends seven = quiet_front Usage before between after f g status (usage comes.0) comes.1 ends seven (λ e. omega arith)
+  printed_front (Script kind) before between after f g status comes ends seven = quiet_front (Script kind) before between after f g status (script comes.0) comes.1 ends seven (λ e. omega arith)
+  printed_front (Application kind) before between after f g status comes ends seven = quiet_front (Application kind) before between after f g status (refused_application comes.0) comes.1 ends seven (λ e. omega arith)
+  printed_front StoreFailed before between after f g status comes ends seven = quiet_front StoreFailed before between after f g status store_failed comes ends seven (λ e. omega arith)
+  printed_front SinkFailed before between after f g status comes ends seven = (0, comes.0, accepted_answer comes.0 comes.1, record { taken = comes.2.taken; appended = ends.1 ∙ comes.2.appended })
+  printed_front Memory before between after f g status (inl same) ends seven = memory_front before between after f g status 0 (line (codes "store failed")) store_failed (same ∙ put_nothing before) ends seven
+  printed_front Memory before between after f g status (inr part) ends seven = memory_front before between after f g status part.2.taken part.0 (accepted_answer part.0 part.1) part.2.appended ends seven
+
+  -- ---- one cause excludes the others
+
+  plays_not_usage : (ids : List Text) → Plays words told ids → IsUsage words → ⊥
+  plays_not_usage ids plays none = none plays.script plays.command
+
+  plays_not_refused : (ids : List Text) (kind : Text) → Plays words told ids → RefusedScript words told kind → ⊥
+  plays_not_refused ids kind plays (gone_script command gone) = not_both (told plays.script) plays.text plays.stands (ap told (same_script words _ _ plays.command command) ∙ gone)
+  plays_not_refused ids kind plays (refused_script {text = text} command stands none) =
+      none ids (subst (λ t. IsFirstScript t ids) (same_some plays.text text (sym plays.stands ∙ ap told (same_script words _ _ plays.command command) ∙ stands)) plays.clicks)
+
+  refused_plays : (kind : Text) → RefusedApplication words told kind → (ids : List Text) × Plays words told ids
+  refused_plays kind (gone_root plays gone) = (_, plays)
+  refused_plays kind (refused_root plays stands none) = (_, plays)
+
+  accepted_not_refused : (m : Module) (ids : List Text) (kind : Text) → IsAccepted words told m ids → RefusedApplication words told kind → ⊥
+  accepted_not_refused m ids kind accepted (gone_root plays gone) = not_both (told root_name) accepted.source accepted.stands gone
+  accepted_not_refused m ids kind accepted (refused_root {source = source} plays stands none) =
+      none m (subst (λ t. HasFirstForm t m) (same_some accepted.source source (sym accepted.stands ∙ stands)) accepted.derives)
+
+  refused_not_usage : (kind : Text) → RefusedScript words told kind → IsUsage words → ⊥
+  refused_not_usage kind (gone_script command gone) none = none _ command
+  refused_not_usage kind (refused_script command stands no_ids) none = none _ command
+
+  -- ---- which answer comes
+
+  pub comes_played : (text : Text) → CommandPlays words told text → Comes words told 0
+  comes_played text plays = record {
+    accepted = λ m ids accepted. inl refl;
+    application = λ kind refused. absurd (accepted_not_refused plays.m plays.ids kind plays.accepted refused);
+    script = λ kind refused. absurd (plays_not_refused plays.ids kind plays.accepted.plays refused);
+  }
+
+  pub comes_ended : (stop : Stop) (before between after : Option Text) (f g status : ℕ) → CommandComes words told before between (Err stop) → Finishes stop between after f g status → Comes words told status
+  comes_ended Usage before between after f g status comes ends = record {
+    accepted = λ m ids accepted. absurd (plays_not_usage ids accepted.plays comes.0);
+    application = λ kind refused. absurd (plays_not_usage _ (refused_plays kind refused).1 comes.0);
+    script = λ kind refused. absurd (refused_not_usage kind refused comes.0);
+  }
+  comes_ended (Script own) before between after f g status comes ends = record {
+    accepted = λ m ids accepted. absurd (plays_not_refused ids _ accepted.plays comes.0);
+    application = λ kind refused. absurd (plays_not_refused _ _ (refused_plays kind refused).1 comes.0);
+    script = λ kind refused. with_outside 5 status (last_line_status (Script own) between after f g status ends);
+  }
+  comes_ended (Application own) before between after f g status comes ends = record {
+    accepted = λ m ids accepted. absurd (accepted_not_refused m ids _ accepted comes.0);
+    application = λ kind refused. with_outside 2 status (last_line_status (Application own) between after f g status ends);
+    script = λ kind refused. absurd (plays_not_refused _ kind (refused_plays _ comes.0).1 refused);
+  }
+  comes_ended StoreFailed before between after f g status comes ends = outside_comes status (last_line_status StoreFailed between after f g status ends)
+  comes_ended SinkFailed before between after f g status comes ends = outside_comes status (inr (inl ends.0))
+  comes_ended Memory before between after f g status comes ends = outside_comes status (from_memory status (last_line_status Memory between after f g status ends))
+
+  -- ---- completeness
+
+  pub complete_ended : (stop : Stop) (before between after : Option Text) (store_before store_now before_faults between_faults now_faults status : ℕ) (m : Module) (ids : List Text) → IsAccepted words told m ids → CommandComes words told before between (Err stop)
+      → Finishes stop between after between_faults now_faults status → EndsForFaults {T = Unit {0}} StoreFailed store_before store_now (Err stop) → EndsForFaults {T = Unit {0}} SinkFailed before_faults between_faults (Err stop)
+      → ¬ Rose store_before store_now → ¬ Rose before_faults now_faults → (status ≡ 0) ⊎ (status ≡ 8)
+  complete_ended Usage before between after sb sn f g h status m ids accepted comes ends store sink no_store no_sink = absurd (plays_not_usage ids accepted.plays comes.0)
+  complete_ended (Script own) before between after sb sn f g h status m ids accepted comes ends store sink no_store no_sink = absurd (plays_not_refused ids _ accepted.plays comes.0)
+  complete_ended (Application own) before between after sb sn f g h status m ids accepted comes ends store sink no_store no_sink = absurd (accepted_not_refused m ids _ accepted comes.0)
+  complete_ended StoreFailed before between after sb sn f g h status m ids accepted comes ends store sink no_store no_sink = absurd (no_store (store.failed refl))
+  complete_ended SinkFailed before between after sb sn f g h status m ids accepted comes ends store sink no_store no_sink = absurd (no_sink (subst (Rose f) (sym ends.2) (sink.failed refl)))
+  complete_ended Memory before between after sb sn f g h status m ids accepted comes ends store sink no_store no_sink =
+      memory_complete between after f g h status ends (sink.kept (λ e. apart e)) no_sink
+
+  -- ---- the headline
+
+  pub headline_played : (before after : Option Text) (m : Module) (ids : List Text) (text : Text) → IsAccepted words told m ids → CommandPlays words told text → IsPut text before after → (text : Text) × IsOutput m ids text × IsPut text before after
+  headline_played before after m ids text accepted plays put =
+      let same_module = one_first accepted.source plays.m m (subst (λ t. HasFirstForm t plays.m) (same_some plays.accepted.source accepted.source (sym plays.accepted.stands ∙ accepted.stands)) plays.accepted.derives) accepted.derives in
+      let same_text = same_some plays.accepted.plays.text accepted.plays.text (sym plays.accepted.plays.stands ∙ ap told (same_script words _ _ plays.accepted.plays.command accepted.plays.command) ∙ accepted.plays.stands) in
+      let same_ids = one_script accepted.plays.text plays.ids ids (subst (λ t. IsFirstScript t plays.ids) same_text plays.accepted.plays.clicks) accepted.plays.clicks in
+      (text, subst (λ i. IsOutput m i text) same_ids (subst (λ n. IsOutput n plays.ids text) same_module plays.printed), put)

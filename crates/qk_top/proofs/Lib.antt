@@ -1,0 +1,10 @@
+pub mod Ends
+pub mod Comings
+pub mod Readings
+pub mod Shapes
+pub mod Outputs
+pub mod Plays
+pub mod Shown
+pub mod Numbers
+pub mod Commands
+pub mod Scripts

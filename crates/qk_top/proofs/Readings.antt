@@ -1,0 +1,62 @@
+-- What a read tells of the file.
+use Rattle.std.proofs.Common.{◌≡◌, ◌≤◌, ◌<◌, ℕ, Bool, true, false, List, refl, sym, ap, ◌∙◌, subst, length, arith, Option, Some, None}
+use Rattle.std.specs.Prelude.{nat_lt, if◌then◌else◌}
+use Rattle.std.proofs.Common.{◌⊎◌, inl, inr}
+use Rattle.std.specs.Prelude.{Result, Ok, Err, IfOk, IfErr, IsErrOf}
+use Rattle.qk_ast.specs.declared.Module.{Module}
+use Rattle.qk_store.specs.Files.{Files}
+use Rattle.qk_top.specs.declared.stop.ApplicationRefusal.TheVariants.{NotBuilt}
+use Rattle.qk_top.specs.declared.stop.Stop.{Stop}
+use Rattle.qk_top.specs.declared.stop.Stop.TheVariants.{Application, Memory}
+use Rattle.qk_top.specs.Answers.{root_name}
+use Rattle.qk_top.specs.Sources.{IsRoot}
+use Rattle.qk_ast.specs.First.{HasFirstForm}
+use Rattle.qk_meaning.specs.Value.{Text}
+use Rattle.qk_store.specs.Answers.{Content, gone, too_long, bytes, reading}
+
+not_gone : (b : Bool) (file : List ℕ) → gone ≡ (if b then too_long else bytes file) → ⊥
+not_gone true file h = cc
+not_gone false file h = cc
+
+pub gone_is : (file : Option (List ℕ)) (most : ℕ) → gone ≡ reading file most → file ≡ None
+gone_is None most h = refl
+gone_is (Some file) most h = absurd (not_gone (nat_lt most (length file)) file h)
+
+chosen_long : (b : Bool) (file : List ℕ) → too_long ≡ (if b then too_long else bytes file) → b ≡ true
+chosen_long true file h = refl
+chosen_long false file h = cc
+
+none_long : too_long ≡ gone → ⊥
+none_long h = cc
+
+longer : (most n : ℕ) → nat_lt most n ≡ true → most < n
+longer most n h = grind (arith, h)
+
+pub long_is : (file : Option (List ℕ)) (most : ℕ) → too_long ≡ reading file most → (text : List ℕ) × (file ≡ Some text) × (most < length text)
+long_is None most h = absurd (none_long h)
+long_is (Some file) most h = (file, refl, longer most (length file) (chosen_long (nat_lt most (length file)) file h))
+
+chosen_bytes : (b : Bool) (file read : List ℕ) → bytes read ≡ (if b then too_long else bytes file) → read ≡ file
+chosen_bytes true file read h = cc
+chosen_bytes false file read h = cc
+
+none_bytes : (read : List ℕ) → bytes read ≡ gone → ⊥
+none_bytes read h = cc
+
+pub bytes_is : (file : Option (List ℕ)) (most : ℕ) (read : List ℕ) → bytes read ≡ reading file most → file ≡ Some read
+bytes_is None most read h = absurd (none_bytes read h)
+bytes_is (Some file) most read h = ap Some (sym (chosen_bytes (nat_lt most (length file)) file read h))
+
+-- a text of the first form is short
+pub long_refused : (text : Text) (m : Module) → 1048576 < length text → HasFirstForm text m → ⊥
+long_refused text m long h = omega (arith, h.short)
+
+pub not_some : {A : Type 0} (a : A) → None ≡ Some a → ⊥
+not_some a h = cc
+
+-- what came of a source that stands
+pub root_came : (told : Files) (source : Text) (r : Result Module Stop) → told root_name ≡ Some source → IfOk r (λ m. HasFirstForm source m)
+    → (IsErrOf r (Application NotBuilt) → (m : Module) → ¬ HasFirstForm source m) → IfErr r (λ stop. (stop ≡ Memory) ⊎ (stop ≡ Application NotBuilt)) → IsRoot told r
+root_came told source (Ok m) stands ok refused stops = (source, stands, ok)
+root_came told source (Err stop) stands ok refused (inl e) = subst (λ s. IsRoot told (Err s)) (sym e) tt
+root_came told source (Err stop) stands ok refused (inr e) = subst (λ s. IsRoot told (Err s)) (sym e) (source, stands, refused (ap Err e))

@@ -1,0 +1,36 @@
+use Rattle.std.proofs.Common.{rules, arith, refl, sym, ◌∙◌, length}
+use Rattle.std.proofs.lemmas.List.{length-map}
+use Rattle.qk_top.proofs.Plays.{first_front, played_none, played_more, played_all, played_front, played_in_bits, id_there, handed_on, whole_front}
+use Rattle.qk_top.proofs.play.play.Goals as goal
+
+pub returns-in_err-put_first-clause-front : goal.returns-in_err-put_first-clause-front
+returns-in_err-put_first-clause-front g c = first_front _ _ _ _ c.in_err-put_first.ensures.front
+
+pub loop-index-init : goal.loop-index-init
+loop-index-init g c = record {
+  played = played_in_bits _ _ 0 _ _ _ _ (omega arith) refl (played_none _ _ _ _ c.requires.initial c.in_ok-put_first.ensures.played);
+  faults = c.in_ok-put_first.ensures.cause.ok;
+}
+
+pub put_click-requires : goal.put_click-requires
+put_click-requires g c = omega (arith, c.loop-index.invariant.played.small, c.requires.short, c.loop-index-test.true)
+
+pub loop-index-preserved : goal.loop-index-preserved
+loop-index-preserved g c = record {
+  played = played_in_bits _ _ _ _ _ _ _ (omega arith) c.in_ok-number.ensures.number
+      (played_more _ _ _ _ _ _ _ _ c.loop-index.invariant.played (rw length-map c.loop-index-test.true) (id_there (λ id. id.now) _ _ _ c.loop-index-test.true) c.in_ok-number.ensures.played);
+  faults = c.in_ok-number.ensures.cause.ok ∙ c.loop-index.invariant.faults;
+}
+
+pub returns-clause-played : goal.returns-clause-played
+returns-clause-played g c = played_all _ _ _ _ _ _ c.loop-index.invariant.played (rw length-map c.loop-index-test.false)
+
+pub returns-in_err-number-clause-front : goal.returns-in_err-number-clause-front
+returns-in_err-number-clause-front g c =
+    played_front _ _ _ _ _ _ _ _ c.loop-index.invariant.played (rw length-map c.loop-index-test.true) (id_there (λ id. id.now) _ _ _ c.loop-index-test.true) c.in_err-number.ensures.front
+
+pub returns-in_err-number-clause-cause : goal.returns-in_err-number-clause-cause
+returns-in_err-number-clause-cause g c = handed_on _ _ _ _ _ c.loop-index.invariant.faults c.in_err-number.ensures.cause (search rules)
+
+pub returns-clause-front : goal.returns-clause-front
+returns-clause-front g c = whole_front _ _ _ (played_all _ _ _ _ _ _ c.loop-index.invariant.played (rw length-map c.loop-index-test.false))

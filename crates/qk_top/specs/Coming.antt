@@ -1,0 +1,47 @@
+-- What comes of a command, as far as the store tells its files.
+use Rattle.std.specs.Prelude.{◌≡◌, ◌⊎◌, ℕ, List, Option, Some, None, Result, Ok, Err}
+use Rattle.qk_ast.specs.declared.Module.{Module}
+use Rattle.qk_ast.specs.First.{HasFirstForm}
+use Rattle.qk_store.specs.Files.{Files}
+use Rattle.qk_store.specs.Pieces.{AppendsFront}
+use Rattle.qk_meaning.specs.Value.{Text}
+use Rattle.qk_top.specs.declared.stop.ApplicationRefusal.TheVariants as application
+use Rattle.qk_top.specs.declared.stop.Stop.{Stop}
+use Rattle.qk_top.specs.declared.stop.Stop.TheVariants.{Usage, Script, Application, StoreFailed, SinkFailed, Memory}
+use Rattle.qk_top.specs.Answers.{root_name, IsUsage, RefusedScript, RefusedApplication, IsAccepted, IsOutput}
+use Rattle.qk_top.specs.Stops.{script_kind, application_kind, IsPut}
+
+-- `root.jsx` derives a module, and this is what is printed of it
+pub record RootPlays (told : Files) (ids : List Text) (text : Text) : Type 0 where
+  pub m : Module
+  pub source : Text
+  pub stands : told root_name ≡ Some source
+  pub derives : HasFirstForm source m
+  pub printed : IsOutput m ids text
+
+-- what comes of the application where a script clicks at these ids
+abbrev pub RootComes : Files → List Text → Option Text → Option Text → Result (Unit {0}) Stop → Type 0
+RootComes told ids before after (Ok _) = (text : Text) × RootPlays told ids text × IsPut text before after
+RootComes told ids before after (Err (Application application.RootMissing)) = (told root_name ≡ None) × (after ≡ before)
+RootComes told ids before after (Err (Application application.NotBuilt)) = ((source : Text) × (told root_name ≡ Some source) × ((m : Module) → ¬ HasFirstForm source m)) × (after ≡ before)
+RootComes told ids before after (Err StoreFailed) = after ≡ before
+RootComes told ids before after (Err SinkFailed) = (text : Text) × RootPlays told ids text × AppendsFront text before after
+RootComes told ids before after (Err Memory) = (after ≡ before) ⊎ ((text : Text) × RootPlays told ids text × AppendsFront text before after)
+RootComes told ids before after (Err _) = ⊥
+
+-- the command is accepted, and this is what is printed
+pub record CommandPlays (words : List Text) (told : Files) (text : Text) : Type 0 where
+  pub m : Module
+  pub ids : List Text
+  pub accepted : IsAccepted words told m ids
+  pub printed : IsOutput m ids text
+
+-- what comes of the words
+abbrev pub CommandComes : List Text → Files → Option Text → Option Text → Result (Unit {0}) Stop → Type 0
+CommandComes words told before after (Ok _) = (text : Text) × CommandPlays words told text × IsPut text before after
+CommandComes words told before after (Err Usage) = IsUsage words × (after ≡ before)
+CommandComes words told before after (Err (Script kind)) = RefusedScript words told (script_kind kind) × (after ≡ before)
+CommandComes words told before after (Err (Application kind)) = RefusedApplication words told (application_kind kind) × (after ≡ before)
+CommandComes words told before after (Err StoreFailed) = after ≡ before
+CommandComes words told before after (Err SinkFailed) = (text : Text) × CommandPlays words told text × AppendsFront text before after
+CommandComes words told before after (Err Memory) = (after ≡ before) ⊎ ((text : Text) × CommandPlays words told text × AppendsFront text before after)

@@ -1,0 +1,11 @@
+pub mod Words
+pub mod Lines
+pub mod Script
+pub mod Shape
+pub mod Blocks
+pub mod Standing
+pub mod Answers
+pub mod Stops
+pub mod Sources
+pub mod Coming
+pub mod Run

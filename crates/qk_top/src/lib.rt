@@ -1,0 +1,14 @@
+//! The top call: all that the program does, from its words to its status, over a store and a sink that are handed in.
+#![tactic(auto)]
+
+mod blocks;
+mod command;
+mod play;
+mod replay;
+mod script;
+mod shape;
+mod sources;
+mod stop;
+mod words;
+
+pub use command::run;
