@@ -12,7 +12,9 @@ use Rattle.qk_ast.specs.Depth.{inside, depth}
 use Rattle.qk_ast.specs.Tree.{arrows, tree}
 use Rattle.qk_ast.specs.Rules.{tightness, binds, keeps}
 use Rattle.qk_reading.specs.Input.{Input, at, Outcome, Reader, reading, headed, Sign, first_is, sees, after, expect, many_from, separated_from, collected_from}
-use Rattle.qk_reading.specs.Reader.{known_ahead, head, atom, bracketed, nested, postfix, unary, nesting}
+use Rattle.qk_reading.specs.Ahead.{known_ahead}
+use Rattle.qk_reading.specs.Forms.{head, atom, bracketed, nested, postfix, unary}
+use Rattle.qk_reading.specs.Reader.{nesting}
 use Rattle.qk_reading.proofs.Framed.{framed}
 use Rattle.qk_reading.proofs.Follow.{Ends, NoArrowSign, ends_weaker, first_not, binds_plain, arrowless, tight_opens}
 use Rattle.qk_reading.proofs.Counted.{counted, kind}

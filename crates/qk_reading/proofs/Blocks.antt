@@ -13,7 +13,9 @@ use Rattle.qk_ast.specs.Depth.{inside, depth, binding_depth, statement_depth, st
 use Rattle.qk_ast.specs.Tree.{arrows, arrow_signs, bytes, tree, statement_tree, statements_tree, part_tree}
 use Rattle.qk_ast.specs.Rules.{binds, statement_keeps, statements_keep, part_keeps, is_member, ends_with_if, part_ends_with_if, may_be_part}
 use Rattle.qk_reading.specs.Input.{at, Sign, Word, first_is, sees, after, expect, name_that, many_from, many, Single, Otherwise}
-use Rattle.qk_reading.specs.Reader.{held, condition, comma_name, scope, declared, constant, variable, returned, conditional, looping, each, deleted, done, statement, statements_from, block, single, group, nesting}
+use Rattle.qk_reading.specs.Parts.{comma_name, scope}
+use Rattle.qk_reading.specs.Statements.{held, condition, declared, constant, variable, returned, conditional, looping, each, deleted, done, statement, statements_from, block, single, group}
+use Rattle.qk_reading.specs.Reader.{nesting}
 use Rattle.qk_reading.proofs.Framed.{framed, step_framed, statement_framed, statements_framed, part_framed}
 use Rattle.qk_ast.proofs.FrontToken.{same_is}
 use Rattle.qk_reading.proofs.Follow.{Opens, opens_not, opens, by_bool, clash}

@@ -11,7 +11,7 @@ use Rattle.qk_ast.specs.Spelling.{Writing, tokens, bin_sign}
 use Rattle.qk_ast.specs.Tree.{arrow_signs, arrows}
 use Rattle.qk_ast.specs.Rules.{level_of, tightness, is_member, is_target, is_place}
 use Rattle.qk_reading.specs.Input.{Kind, Loose, Chained, Prefixed, Called, Member, Bare, Atomic}
-use Rattle.qk_reading.specs.Reader.{kind_tightness, is_member_kind, is_target_kind}
+use Rattle.qk_reading.specs.Ahead.{kind_tightness, is_member_kind, is_target_kind}
 use Rattle.qk_reading.proofs.Framed.{Framed, framed}
 use Rattle.qk_reading.proofs.Follow.{Opens, opens}
 

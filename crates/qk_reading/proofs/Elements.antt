@@ -14,7 +14,10 @@ use Rattle.qk_ast.specs.Spelling.{tokens, element_tokens, attributes_tokens, chi
 use Rattle.qk_ast.specs.Depth.{inside, depth, element_depth, attributes_depth, children_depth}
 use Rattle.qk_ast.specs.Tree.{arrows, bytes, before_children, tree, element_tree, attributes_tree, children_tree}
 use Rattle.qk_reading.specs.Input.{Input, at, Reader, Sign, first_is, sees, after, expect, name_that, many_from, many, sparse_from, sparse}
-use Rattle.qk_reading.specs.Reader.{child_text, start_by, attribute, child, children, tagged, untagged, head, known_ahead, atom, nesting}
+use Rattle.qk_reading.specs.Ahead.{known_ahead}
+use Rattle.qk_reading.specs.Parts.{child_text}
+use Rattle.qk_reading.specs.Forms.{start_by, attribute, child, children, tagged, untagged, head, atom}
+use Rattle.qk_reading.specs.Reader.{nesting}
 use Rattle.qk_reading.proofs.Framed.{framed, attributes_framed, children_framed, element_framed}
 use Rattle.qk_reading.proofs.Follow.{opens_not, opens}
 use Rattle.qk_reading.proofs.Counted.{counted, measured, longer}

@@ -14,7 +14,7 @@ use Rattle.qk_ast.specs.Grammar.{Level, Or_level, Coalesce_level, And_level, Sam
 use Rattle.qk_ast.specs.Spelling.{tokens, bin_sign, link_tokens, links_tokens, fields_tokens, operands_tokens}
 use Rattle.qk_ast.specs.Rules.{level_of, tightness_of, operand_tightness, tightness, binds, is_of_level, keeps}
 use Rattle.qk_reading.specs.Input.{Sign, first_is, first, rest, maybe}
-use Rattle.qk_reading.specs.Reader.{bin_of, binary_sign, of_level, operator_at, Scan, At_pattern, After_pattern, At_first, At_next, At_arrow, finds_arrow, arrow_from}
+use Rattle.qk_reading.specs.Ahead.{bin_of, binary_sign, of_level, operator_at, Scan, At_pattern, After_pattern, At_first, At_next, At_arrow, finds_arrow, arrow_from}
 use Rattle.qk_ast.proofs.FrontToken.{same_is}
 
 -- how tightly the form binds that goes on with the sign, and one more: 0 for a sign with which no form goes on

@@ -22,7 +22,10 @@ use Rattle.qk_ast.specs.Depth.{inside, depth, operands_depth, link_depth, links_
 use Rattle.qk_ast.specs.Tree.{arrows, bytes, tree, operands_tree, link_tree, links_tree, arguments_tree}
 use Rattle.qk_ast.specs.Rules.{level_of, tightness_of, operand_tightness, binds, is_of_level, keeps, operands_keep, is_one_argument, reads_as_known}
 use Rattle.qk_reading.specs.Input.{at, Kind, Called, reading, headed, Sign, first_is, sees, after, expect, many_from, many}
-use Rattle.qk_reading.specs.Reader.{operator_at, kind_tightness, known_ahead, known_dotted, known_method, called_with, arrow_ahead, head, called, trunc, divides, link, links_from, links, operand, postfix, unary, whole, choice, nesting}
+use Rattle.qk_reading.specs.Ahead.{operator_at, kind_tightness, known_ahead, known_dotted, known_method, arrow_ahead}
+use Rattle.qk_reading.specs.Parts.{called_with, divides, operand}
+use Rattle.qk_reading.specs.Forms.{head, called, trunc, link, links_from, links, postfix, unary, whole, choice}
+use Rattle.qk_reading.specs.Reader.{nesting}
 use Rattle.qk_ast.proofs.FrontToken.{same_is}
 use Rattle.qk_reading.proofs.Framed.{framed, link_framed, arguments_framed}
 use Rattle.qk_reading.proofs.Follow.{Ends, ends_weaker, first_not, opens_not, arrowless, opens, sign_ends, operand_above, by_bool, clash, same_level, no_operator}

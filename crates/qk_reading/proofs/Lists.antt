@@ -14,7 +14,10 @@ use Rattle.qk_ast.specs.Depth.{inside, depth, arguments_depth, field_depth, fiel
 use Rattle.qk_ast.specs.Tree.{arrows, tree, arguments_tree, field_tree, fields_tree, holes_tree, parts_tree, value}
 use Rattle.qk_ast.specs.Rules.{binds, key_of, fields_keep}
 use Rattle.qk_reading.specs.Input.{at, reading, Sign, first_is, sees, after, expect, separated_from, separated, collected_from, collected, Whole as Inner_whole, Tight}
-use Rattle.qk_reading.specs.Reader.{known_ahead, head, atom, args, nested, keys, fresh, field, field_value, fields, part, holes_from, holes, divides, called, trunc, nesting}
+use Rattle.qk_reading.specs.Ahead.{known_ahead}
+use Rattle.qk_reading.specs.Parts.{keys, fresh, part, divides}
+use Rattle.qk_reading.specs.Forms.{head, atom, args, nested, field, field_value, fields, holes_from, holes, called, trunc}
+use Rattle.qk_reading.specs.Reader.{nesting}
 use Rattle.qk_reading.proofs.Framed.{framed, arguments_framed, field_framed, fields_framed}
 use Rattle.qk_reading.proofs.Follow.{Ends, Opens, opens_not, opens}
 use Rattle.qk_reading.proofs.Counted.{counted, longer, kind, tight_kind}

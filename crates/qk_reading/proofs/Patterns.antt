@@ -10,7 +10,8 @@ use Rattle.qk_ast.specs.Spelling.{names_tokens, binding_tokens, bindings_tokens,
 use Rattle.qk_ast.specs.Depth.{inside, binding_depth, bindings_depth, parameters_depth}
 use Rattle.qk_ast.specs.Tree.{arrow_signs, bytes, names_tree, binding_tree, bindings_tree, parameters_tree}
 use Rattle.qk_reading.specs.Input.{at, Sign, ◌<$>◌, first_is, first, rest, sees, after, name, name_that, separated_from, separated}
-use Rattle.qk_reading.specs.Reader.{names, pattern, params, arrow_from, finds_arrow, At_pattern, After_pattern, At_first, At_next}
+use Rattle.qk_reading.specs.Ahead.{arrow_from, finds_arrow, At_pattern, After_pattern, At_first, At_next}
+use Rattle.qk_reading.specs.Parts.{names, pattern, params}
 use Rattle.qk_reading.proofs.Reached.{Reaches, reached, reach_then, enter_reach}
 use Rattle.qk_reading.proofs.Atoms.{separated_step, separated_last, separated_end}
 use Rattle.qk_reading.proofs.Lists.{expect_reach}

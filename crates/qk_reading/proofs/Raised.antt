@@ -4,7 +4,7 @@ use Rattle.std.specs.Prelude.{ℕ, zero, suc, ◌+◌, ◌≤◌, Bool, true, fa
 use Rattle.qk_ast.specs.Characters.{Characters}
 use Rattle.qk_ast.specs.Tokens.{Token}
 use Rattle.qk_reading.specs.Input.{Input, at, Syntax, TooDeep, Outcome, Reader, and_then, pure, maybe, Mark, Sign, token_of, first_is, rest, advance, sees, after, expect, name_that, number, enter, many_from, many, sparse_from, sparse, separated_from, separated, collected_from, collected}
-use Rattle.qk_reading.specs.Reader.{later}
+use Rattle.qk_reading.specs.Parts.{later}
 use Rattle.qk_reading.specs.Laws.{can_raise, raisers}
 use Rattle.qk_reading.proofs.Follow.{by_bool}
 use Rattle.qk_reading.proofs.Sound.{mark_seen}

@@ -13,7 +13,9 @@ use Rattle.qk_ast.specs.Tokens.{Token, Edge}
 use Rattle.qk_ast.specs.Tree.{bytes, value}
 use Rattle.qk_ast.specs.Grammar.{Level, Or_level, Coalesce_level, And_level, Same_level, Order_level, Sum_level, Product_level}
 use Rattle.qk_reading.specs.Input.{Input, at, Outcome, Reader, Nested, Inner, Whole, Tight, Tagged, Untagged, Braced, Single, Otherwise, Read, Kind, pure, peek, maybe, ◌>>=◌, ◌<$>◌, Mark, Sign, rest, advance, sees, name, many}
-use Rattle.qk_reading.specs.Reader.{names, pattern, params, arrow_head, arrow_ahead, nested, args, field_value, fresh, keys, field, fields, part, holes_from, holes, bracketed, start_by, bracket_by, literal, word_by, atom, known_ahead, called, trunc, trunc_from, trunc_by, more_by, divides, is_dividend, head, dot_by, link, links_from, links, postfix, unary, kind_tightness, operator_at, operator, operand, chain, product, sum, order, equality, conjunction, logic, logic_by, choice, arrow, whole}
+use Rattle.qk_reading.specs.Ahead.{arrow_ahead, known_ahead, kind_tightness, operator_at, operator}
+use Rattle.qk_reading.specs.Parts.{names, pattern, params, arrow_head, fresh, keys, part, literal, word_by, divides, is_dividend, dot_by, operand, chain}
+use Rattle.qk_reading.specs.Forms.{nested, args, field_value, field, fields, holes_from, holes, bracketed, start_by, bracket_by, atom, called, trunc, trunc_from, trunc_by, more_by, head, link, links_from, links, postfix, unary, product, sum, order, equality, conjunction, logic, logic_by, choice, arrow, whole}
 use Rattle.qk_reading.specs.Laws.{can_raise}
 use Rattle.qk_ast.proofs.FrontToken.{same_is}
 use Rattle.qk_reading.proofs.Follow.{by_bool}

@@ -11,7 +11,11 @@ use Rattle.qk_ast.specs.Characters.{Characters, same}
 use Rattle.qk_ast.specs.Tokens.{Token, is_tag_name}
 use Rattle.qk_ast.specs.Rules.{is_built}
 use Rattle.qk_reading.specs.Input.{Input, at, Fault, Syntax, TooDeep, Outcome, Inner, Whole, Tight, Tagged, Untagged, Nested, too_deep, is_end, Read, Braced, Single, Otherwise, Sign, Word, Given, peek, ◌>>=◌, first_is, advance, sees}
-use Rattle.qk_reading.specs.Reader.{set_by, attribute, braced_by, child, children, tagged, untagged, assign_at, assign_sign, assign_by, bump_at, bump_sign, is_target_kind, step, step_by, body, held, condition, comma_name, scope, declared, constant, variable, ended, returned, conditional, looping, each, is_member_kind, deleted, done, word_statement, statement, statements_from, block, single, single_by, group, level, nesting, text_by, import_line, next_import, item, next_item, module_of, outcome, read_module}
+use Rattle.qk_reading.specs.Ahead.{assign_at, assign_sign, bump_at, bump_sign, is_target_kind, is_member_kind}
+use Rattle.qk_reading.specs.Parts.{comma_name, scope, ended}
+use Rattle.qk_reading.specs.Forms.{set_by, attribute, braced_by, child, children, tagged, untagged, level}
+use Rattle.qk_reading.specs.Statements.{assign_by, step, step_by, body, held, condition, declared, constant, variable, returned, conditional, looping, each, deleted, done, word_statement, statement, statements_from, block, single, single_by, group}
+use Rattle.qk_reading.specs.Reader.{nesting, text_by, import_line, next_import, item, next_item, module_of, outcome, read_module}
 use Rattle.qk_reading.specs.Laws.{raisers, RaisedPast}
 use Rattle.qk_reading.proofs.Follow.{by_bool, clash}
 use Rattle.qk_reading.proofs.Raised.{Deep, Good, fine, wrong, deep, here, pass, weaker, raise, skip, good_then, by_seen, good_expect, expect_raises, good_name, good_enter, good_many, good_sparse}

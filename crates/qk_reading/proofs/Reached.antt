@@ -14,7 +14,10 @@ use Rattle.qk_ast.specs.Grammar.{Level, Or_level, Coalesce_level, And_level, Sam
 use Rattle.qk_ast.specs.Spelling.{bin_sign}
 use Rattle.qk_ast.specs.Rules.{tightness_of, operand_tightness, is_of_level}
 use Rattle.qk_reading.specs.Input.{Input, at, TooDeep, Outcome, Reader, and_then, Kind, Chained, Read, reading, headed, Mark, Sign, first_is, sees, after, enter, many_from, many}
-use Rattle.qk_reading.specs.Reader.{kind_tightness, operator_at, operator, arrow_ahead, later, head, link, links_from, links, postfix, unary, operand, chain, product, sum, order, equality, conjunction, logic, choice, whole, nesting}
+use Rattle.qk_reading.specs.Ahead.{kind_tightness, operator_at, operator, arrow_ahead}
+use Rattle.qk_reading.specs.Parts.{later, operand, chain}
+use Rattle.qk_reading.specs.Forms.{head, link, links_from, links, postfix, unary, product, sum, order, equality, conjunction, logic, choice, whole}
+use Rattle.qk_reading.specs.Reader.{nesting}
 use Rattle.qk_reading.proofs.Follow.{Ends, Opens, Arrowless, ends_weaker, first_not, opens_not, no_operator, sign_seen, sign_taken}
 
 -- the tree is found, or the text is too deep

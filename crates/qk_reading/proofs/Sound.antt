@@ -11,7 +11,7 @@ use Rattle.qk_ast.specs.Depth.{inside, depth, arguments_depth}
 use Rattle.qk_ast.specs.Tree.{arrows, tree, arguments_tree}
 use Rattle.qk_ast.specs.Rules.{keeps, arguments_keep, binds}
 use Rattle.qk_reading.specs.Input.{Input, at, Outcome, Reader, and_then, Nested, Read, Mark, Sign, Word, Given, Start, token_of, first_is, rest, advance, sees, after, expect, name_that, enter, separated_from, separated, collected_from, collected, many_from, many, pure, maybe}
-use Rattle.qk_reading.specs.Reader.{nested, args, bracketed}
+use Rattle.qk_reading.specs.Forms.{nested, args, bracketed}
 use Rattle.qk_ast.proofs.FrontToken.{same_is}
 use Rattle.qk_reading.proofs.Framed.{Framed, framed, comma_framed}
 use Rattle.qk_reading.proofs.Follow.{by_bool, clash}

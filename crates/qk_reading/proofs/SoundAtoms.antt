@@ -12,7 +12,8 @@ use Rattle.qk_ast.specs.Depth.{inside, depth, holes_depth}
 use Rattle.qk_ast.specs.Tree.{arrows, value, tree, holes_tree, parts_tree}
 use Rattle.qk_ast.specs.Rules.{keeps, holes_keep}
 use Rattle.qk_reading.specs.Input.{Input, at, Nested, Read, pure}
-use Rattle.qk_reading.specs.Reader.{nested, part, holes_from, holes, atom, atomic, bracket_by, start_by}
+use Rattle.qk_reading.specs.Parts.{part, atomic}
+use Rattle.qk_reading.specs.Forms.{nested, holes_from, holes, atom, bracket_by, start_by}
 use Rattle.qk_reading.proofs.Framed.{one_framed, framed, arguments_framed, fields_framed, sign_framed}
 use Rattle.qk_reading.proofs.Follow.{by_bool}
 use Rattle.qk_reading.proofs.Sound.{sign_here, word_here, Sound, read, refused, sound_then, implied, Spans, spans_then, Reading, Valued, max_le, args_sound, bracketed_sound}

@@ -13,7 +13,8 @@ use Rattle.qk_ast.specs.Depth.{inside, depth, statements_depth, part_depth}
 use Rattle.qk_ast.specs.Tree.{arrows, bytes, tree, statements_tree, part_tree}
 use Rattle.qk_ast.specs.Rules.{keeps, is_built, statements_keep, part_keeps, part_ends_with_if}
 use Rattle.qk_reading.specs.Input.{Input, at, Nested, Sign, Word, Given, Braced, Single, Otherwise, first_is, advance, sees}
-use Rattle.qk_reading.specs.Reader.{nested, held, condition, constant, conditional, looping, each, word_statement, statement, statements_from, block, single, single_by, group, whole, step, postfix}
+use Rattle.qk_reading.specs.Forms.{nested, whole, postfix}
+use Rattle.qk_reading.specs.Statements.{held, condition, constant, conditional, looping, each, word_statement, statement, statements_from, block, single, single_by, group, step}
 use Rattle.qk_reading.proofs.Framed.{framed, name_framed, reserved_framed, sign_framed, statement_framed, statements_framed, part_framed, ◌▹◌}
 use Rattle.qk_reading.proofs.Follow.{by_bool, clash}
 use Rattle.qk_reading.proofs.Counted.{counted}

@@ -16,7 +16,9 @@ use Rattle.qk_ast.specs.Depth.{depth, arguments_depth}
 use Rattle.qk_ast.specs.Tree.{arrows, bytes, tree, arguments_tree, links_tree}
 use Rattle.qk_ast.specs.Rules.{keeps, arguments_keep, binds, is_one_argument, is_called_on, reads_as_known}
 use Rattle.qk_reading.specs.Input.{Input, at, ◌>>◌, enter, look, Nested, Read, Head, headed, Atomic, Called, Sign, Whole, Tight, first_is, advance, sees, after}
-use Rattle.qk_reading.specs.Reader.{nested, known_ahead, called, called_with, trunc, trunc_by, trunc_from, divides, is_dividend, more_by, head, atom, math, math_links, linked, kind_tightness}
+use Rattle.qk_reading.specs.Ahead.{known_ahead, kind_tightness}
+use Rattle.qk_reading.specs.Parts.{called_with, divides, is_dividend, math, math_links, linked}
+use Rattle.qk_reading.specs.Forms.{nested, called, trunc, trunc_by, trunc_from, more_by, head, atom}
 use Rattle.qk_ast.proofs.FrontToken.{same_is}
 use Rattle.qk_reading.proofs.Framed.{Framed, framed, arguments_framed, sign_framed, name_framed, comma_framed, ◌▹◌}
 use Rattle.qk_reading.proofs.Follow.{by_bool, clash}

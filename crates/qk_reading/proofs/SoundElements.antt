@@ -16,7 +16,8 @@ use Rattle.qk_ast.specs.Depth.{element_depth, attributes_depth, children_depth}
 use Rattle.qk_ast.specs.Tree.{arrows, bytes, tag_tree, before_children, element_tree, attributes_tree, children_tree}
 use Rattle.qk_ast.specs.Rules.{element_keeps, attributes_keep, children_keep}
 use Rattle.qk_reading.specs.Input.{Input, at, Nested, Tagged, Untagged, Sign, ◌>>=◌, ◌>>◌, pure, peek, maybe, enter, look, advance, sees, sparse_from, sparse, many}
-use Rattle.qk_reading.specs.Reader.{nested, element, start_by, set_by, attribute, braced_by, child, child_text, children, tagged, untagged}
+use Rattle.qk_reading.specs.Parts.{child_text}
+use Rattle.qk_reading.specs.Forms.{nested, element, start_by, set_by, attribute, braced_by, child, children, tagged, untagged}
 use Rattle.qk_ast.proofs.FrontToken.{same_is}
 use Rattle.qk_reading.proofs.Framed.{framed, one_framed, name_framed, sign_framed, begin_framed, element_framed, attributes_framed, children_framed, ◌▹◌}
 use Rattle.qk_reading.proofs.Follow.{by_bool}

@@ -20,7 +20,9 @@ use Rattle.qk_ast.specs.Depth.{inside, depth, operands_depth, body_depth}
 use Rattle.qk_ast.specs.Tree.{arrows, tree, operands_tree, body_tree}
 use Rattle.qk_ast.specs.Rules.{level_of, tightness_of, operand_tightness, binds, is_of_level, keeps, operands_keep, body_keeps}
 use Rattle.qk_reading.specs.Input.{maybe, Input, Outcome, Reader, Nested, Read, reading, Chained, Prefixed, Loose, Sign, first_is, rest, advance, sees, number, Syntax, TooDeep, many, Tight}
-use Rattle.qk_reading.specs.Reader.{bin_of, of_level, operator_at, operator, operand, chain, chained, product, sum, order, equality, conjunction, logic, logic_by, choice, arrow, arrow_head, arrow_ahead, whole, unary, postfix, nested, kind_tightness, later}
+use Rattle.qk_reading.specs.Ahead.{bin_of, of_level, operator_at, operator, arrow_ahead, kind_tightness}
+use Rattle.qk_reading.specs.Parts.{operand, chain, chained, arrow_head, later}
+use Rattle.qk_reading.specs.Forms.{product, sum, order, equality, conjunction, logic, logic_by, choice, arrow, whole, unary, postfix, nested}
 use Rattle.qk_ast.proofs.FrontToken.{same_is}
 use Rattle.qk_reading.proofs.Framed.{Framed, framed, bin_framed, un_framed, parameters_framed, sign_framed, ◌▹◌}
 use Rattle.qk_reading.proofs.Follow.{by_bool, clash, operand_above}

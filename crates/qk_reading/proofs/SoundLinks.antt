@@ -15,7 +15,9 @@ use Rattle.qk_ast.specs.Depth.{depth, link_depth, links_depth}
 use Rattle.qk_ast.specs.Tree.{arrows, word_text, link_tree, links_tree}
 use Rattle.qk_ast.specs.Rules.{link_keeps, links_keep, reads_as_known}
 use Rattle.qk_reading.specs.Input.{Input, at, ◌>>=◌, Nested, Read, Head, Kind, pure, peek, maybe, Sign}
-use Rattle.qk_reading.specs.Reader.{nested, known_ahead, dot_by, link, links_from, links, linked, plain_head, head, postfix}
+use Rattle.qk_reading.specs.Ahead.{known_ahead}
+use Rattle.qk_reading.specs.Parts.{dot_by, linked, plain_head}
+use Rattle.qk_reading.specs.Forms.{nested, link, links_from, links, head, postfix}
 use Rattle.qk_reading.proofs.Framed.{framed, link_framed, arguments_framed, sign_framed}
 use Rattle.qk_reading.proofs.Follow.{by_bool, clash}
 use Rattle.qk_reading.proofs.Counted.{counted, link_kind, last_kind}

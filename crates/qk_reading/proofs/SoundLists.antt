@@ -14,7 +14,8 @@ use Rattle.qk_ast.specs.Depth.{inside, binding_depth, bindings_depth, parameters
 use Rattle.qk_ast.specs.Tree.{arrows, bytes, value, names_tree, binding_tree, bindings_tree, parameters_tree, field_tree, fields_tree}
 use Rattle.qk_ast.specs.Rules.{field_keeps, fields_keep, key_of}
 use Rattle.qk_reading.specs.Input.{Input, at, ◌<$>◌, Nested, Mark, Sign, sees, name}
-use Rattle.qk_reading.specs.Reader.{names, pattern, params, nested, keys, fresh, field, field_value, fields}
+use Rattle.qk_reading.specs.Parts.{names, pattern, params, keys, fresh}
+use Rattle.qk_reading.specs.Forms.{nested, field, field_value, fields}
 use Rattle.qk_reading.proofs.Framed.{one_framed, names_framed, binding_framed, bindings_framed, field_framed, sign_framed, comma_framed, name_framed}
 use Rattle.qk_reading.proofs.Follow.{by_bool, clash}
 use Rattle.qk_reading.proofs.Sound.{Sound, read, refused, sound_then, Spans, spans_then, by_sees, expect_sound, name_sound, enter_sound, Run, none, last, more, Ran, separated_sound, collected_sound, Valued, max_le}

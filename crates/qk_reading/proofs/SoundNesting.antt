@@ -3,7 +3,9 @@ use Rattle.std.proofs.Common.{◌≡◌, arith}
 use Rattle.std.specs.Prelude.{ℕ, zero, suc, Bool, false, codes}
 use Rattle.qk_ast.specs.declared.Form.{Form}
 use Rattle.qk_reading.specs.Input.{Input, Nested, Whole, Tight, Tagged, Untagged, Braced, Single, Otherwise, Sign, sees}
-use Rattle.qk_reading.specs.Reader.{nested, element, unary, postfix, whole, step, tagged, untagged, body, block, single, group, nesting}
+use Rattle.qk_reading.specs.Forms.{nested, element, unary, postfix, whole, tagged, untagged}
+use Rattle.qk_reading.specs.Statements.{step, body, block, single, group}
+use Rattle.qk_reading.specs.Reader.{nesting}
 use Rattle.qk_reading.proofs.Sound.{Sound, read, refused, sound_then, Reading, Valued}
 use Rattle.qk_reading.proofs.SoundElements.{Element_read, start_sound, tagged_sound, untagged_sound}
 use Rattle.qk_reading.proofs.SoundAtoms.{atom_sound}

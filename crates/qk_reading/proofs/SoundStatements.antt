@@ -14,7 +14,10 @@ use Rattle.qk_ast.specs.Depth.{statement_depth}
 use Rattle.qk_ast.specs.Tree.{bytes, statement_tree}
 use Rattle.qk_ast.specs.Rules.{statement_keeps, is_built, ends_with_if, may_be_part}
 use Rattle.qk_reading.specs.Input.{Input, Nested, Read, Sign, Word, Given, first_is, advance, sees, many}
-use Rattle.qk_reading.specs.Reader.{is_member_kind, comma_name, scope, scope_call, declared, variable, ended, returned, deleted, done, whole, step, postfix}
+use Rattle.qk_reading.specs.Ahead.{is_member_kind}
+use Rattle.qk_reading.specs.Parts.{comma_name, scope, scope_call, ended}
+use Rattle.qk_reading.specs.Forms.{whole, postfix}
+use Rattle.qk_reading.specs.Statements.{declared, variable, returned, deleted, done, step}
 use Rattle.qk_reading.proofs.Framed.{framed, name_framed, reserved_framed, sign_framed, comma_framed, binding_framed, scope_framed, step_framed, ◌▹◌}
 use Rattle.qk_reading.proofs.Follow.{by_bool, clash}
 use Rattle.qk_reading.proofs.Counted.{member_kind}

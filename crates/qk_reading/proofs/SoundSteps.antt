@@ -16,7 +16,9 @@ use Rattle.qk_ast.specs.Depth.{inside, step_depth, statements_depth}
 use Rattle.qk_ast.specs.Tree.{arrows, step_tree, statements_tree}
 use Rattle.qk_ast.specs.Rules.{is_target, begins_with_brace, step_keeps, statements_keep}
 use Rattle.qk_reading.specs.Input.{Input, Nested, Read, Sign, Braced, maybe, first_is, rest, advance, sees}
-use Rattle.qk_reading.specs.Reader.{is_target_kind, assign_at, bump_at, assign_sign, bump_sign, assign_by, whole, step, step_by, body}
+use Rattle.qk_reading.specs.Ahead.{is_target_kind, assign_at, bump_at, assign_sign, bump_sign}
+use Rattle.qk_reading.specs.Forms.{whole}
+use Rattle.qk_reading.specs.Statements.{assign_by, step, step_by, body}
 use Rattle.qk_ast.proofs.FrontToken.{same_is}
 use Rattle.qk_reading.proofs.Framed.{Framed, framed, assign_framed, step_framed, sign_framed}
 use Rattle.qk_reading.proofs.Follow.{by_bool}

@@ -12,7 +12,11 @@ use Rattle.qk_ast.specs.Depth.{inside, depth, parameters_depth, body_depth, step
 use Rattle.qk_ast.specs.Tree.{arrows, tree, body_tree, step_tree, statements_tree}
 use Rattle.qk_ast.specs.Rules.{binds, keeps, statements_keep, is_target, begins_with_brace}
 use Rattle.qk_reading.specs.Input.{at, reading, Sign, first_is, sees, after, number, Braced}
-use Rattle.qk_reading.specs.Reader.{is_target_kind, assign_at, bump_at, assign_sign as read_assign, bump_sign as read_bump, whole, choice, arrow, arrow_ahead, arrow_head, step, body, nesting}
+use Rattle.qk_reading.specs.Ahead.{is_target_kind, assign_at, bump_at, assign_sign as read_assign, bump_sign as read_bump, arrow_ahead}
+use Rattle.qk_reading.specs.Parts.{arrow_head}
+use Rattle.qk_reading.specs.Forms.{whole, choice, arrow}
+use Rattle.qk_reading.specs.Statements.{step, body}
+use Rattle.qk_reading.specs.Reader.{nesting}
 use Rattle.qk_reading.proofs.Framed.{framed, step_framed, statements_framed}
 use Rattle.qk_reading.proofs.Follow.{Ends, Opens, Arrowless, ends_weaker, first_not, opens, binds_plain, arrowless, by_bool, clash}
 use Rattle.qk_reading.proofs.Counted.{counted, kind, target_kind}

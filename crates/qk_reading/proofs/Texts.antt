@@ -6,7 +6,11 @@ use Rattle.std.specs.Char.{encode_utf8}
 use Rattle.qk_ast.specs.Characters.{Characters}
 use Rattle.qk_ast.specs.Tokens.{Token, Piece, Edge}
 use Rattle.qk_reading.specs.Input.{Fault, Syntax, TooDeep, sees, after, expect, name_that, number, enter, many_from, many, sparse_from, sparse, separated_from, separated, collected_from, collected}
-use Rattle.qk_reading.specs.Reader.{read_module, operator_at, operator, assign_sign, bump_sign, finds_arrow, arrow_ahead, known_ahead, names, pattern, params, arrow_head, fresh, args, field_value, field, fields, part, holes_from, holes, bracketed, atom, divides, trunc, called, head, link, links_from, links, postfix, unary, operand, chain, product, sum, order, equality, conjunction, logic, choice, arrow, whole, attribute, child, children, tagged, untagged, step, body, held, condition, comma_name, scope, declared, constant, variable, returned, conditional, looping, each, deleted, done, statement, statements_from, block, single, group, nesting, import_line, next_import, item, next_item, module_of}
+use Rattle.qk_reading.specs.Ahead.{operator_at, operator, assign_sign, bump_sign, finds_arrow, arrow_ahead, known_ahead}
+use Rattle.qk_reading.specs.Parts.{names, pattern, params, arrow_head, fresh, part, divides, operand, chain, comma_name, scope}
+use Rattle.qk_reading.specs.Forms.{args, field_value, field, fields, holes_from, holes, bracketed, atom, trunc, called, head, link, links_from, links, postfix, unary, product, sum, order, equality, conjunction, logic, choice, arrow, whole, attribute, child, children, tagged, untagged}
+use Rattle.qk_reading.specs.Statements.{step, body, held, condition, declared, constant, variable, returned, conditional, looping, each, deleted, done, statement, statements_from, block, single, group}
+use Rattle.qk_reading.specs.Reader.{read_module, nesting, import_line, next_import, item, next_item, module_of}
 
 abbrev fault_of : Result Module Fault → Option Fault
 fault_of (Ok m) = None
