@@ -163,13 +163,13 @@ module _ (D : Type 0) (form : Form) where
       (reach_then _ (h room 0 n m (Token.Punct (codes ";") ∷ ts) (λ l. d (omega (arith, l, le-max_right (binding_depth b) (depth x)))) (omega arith) (le_binds 0 x (omega arith)) (omega (arith, q, c0, c1)) (omega arith)) reached))
 
   scope_names : (room n : ℕ) (more : List Characters) (fuel : ℕ) (so_far : List (List ℕ)) (ts : List Token) → length (scope_tokens more (Token.Punct (codes "]") ∷ ts)) ≤ fuel
-      → Reaches D (so_far ++ map bytes more) (at (Token.Punct (codes "]") ∷ ts) n) (many_from (comma_name) fuel so_far (at (scope_tokens more (Token.Punct (codes "]") ∷ ts)) n))
+      → Reaches D (so_far ++ map bytes more) (at (Token.Punct (codes "]") ∷ ts) n) (many_from comma_name fuel so_far (at (scope_tokens more (Token.Punct (codes "]") ∷ ts)) n))
   unfolding comma_name sees after name_that
-  scope_names room n [] fuel so_far ts f = rw (many_stop (comma_name) fuel so_far (at (Token.Punct (codes "]") ∷ ts) n) refl, append-nil) reached
+  scope_names room n [] fuel so_far ts f = rw (many_stop comma_name fuel so_far (at (Token.Punct (codes "]") ∷ ts) n) refl, append-nil) reached
   scope_names room n (a ∷ more) fuel so_far ts f =
       let us = scope_tokens more (Token.Punct (codes "]") ∷ ts) in
-      many_step (comma_name) fuel so_far (bytes a) (at (Token.Punct (codes ",") ∷ Token.Name a ∷ us) n) (at us n) f (omega arith) reached
-      (λ fuel' f'. subst (λ ys. Reaches D ys (at (Token.Punct (codes "]") ∷ ts) n) (many_from (comma_name) fuel' (so_far ++ bytes a ∷ []) (at us n))) (append_assoc so_far (bytes a ∷ []) (map bytes more))
+      many_step comma_name fuel so_far (bytes a) (at (Token.Punct (codes ",") ∷ Token.Name a ∷ us) n) (at us n) f (omega arith) reached
+      (λ fuel' f'. subst (λ ys. Reaches D ys (at (Token.Punct (codes "]") ∷ ts) n) (many_from comma_name fuel' (so_far ++ bytes a ∷ []) (at us n))) (append_assoc so_far (bytes a ∷ []) (map bytes more))
       (scope_names room n more fuel' (so_far ++ bytes a ∷ []) ts f'))
 
   pub scope_reads : (a : Characters) (more : List Characters) → Statement_reads (Scope a more)

@@ -1,6 +1,6 @@
 -- Which tokens may follow a phrase, and which begin one.
 use Rattle.std.proofs.Common.{true≢false, ◌≡◌, refl, sym, ◌∙◌, ap, subst, arith, ◌⊎◌, inl, inr}
-use Rattle.std.specs.Prelude.{ℕ, suc, ◌≤◌, Bool, true, false, if◌then◌else◌, nat_le, List, [], ◌∷◌, Option, Some, None, ⊤, codes}
+use Rattle.std.specs.Prelude.{ℕ, suc, ◌≤◌, Bool, true, false, ◌&&◌, if◌then◌else◌, nat_le, List, [], ◌∷◌, Option, Some, None, ⊤, codes}
 use Rattle.std.proofs.Math.Nat.{le_trans}
 use lib.Dec.{leb→le, T}
 use borrow.Author.Tests.{le-leb}
@@ -46,6 +46,10 @@ true_false e = absurd (true≢false e)
 
 pub clash : {P : Type 0} {b : Bool} → b ≡ true → b ≡ false → P
 clash e f = true_false (sym e ∙ f)
+
+pub both : (p q : Bool) → (p && q) ≡ true → (p ≡ true) × (q ≡ true)
+both true q h = (refl, h)
+both false q h = clash {b = false} h refl
 
 pub first_not : (a : Characters) (k : ℕ) (ts : List Token) → suc k ≤ sign_rank a → Ends k ts → first_is (Sign a) ts ≡ false
 first_not a k [] le e = refl

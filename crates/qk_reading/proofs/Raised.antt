@@ -1,5 +1,5 @@
 -- A fault of nesting comes only behind so many tokens that can raise it: the steps and loops.
-use Rattle.std.proofs.Common.{◌≡◌, refl, ◌∙◌, ap, arith, append_assoc}
+use Rattle.std.proofs.Common.{◌≡◌, refl, ◌∙◌, ap, arith, append_assoc, length-append}
 use Rattle.std.specs.Prelude.{ℕ, zero, suc, ◌+◌, ◌≤◌, Bool, true, false, if◌then◌else◌, nat_le, List, [], ◌∷◌, ◌++◌, length, Option, Some, None, Ok, Err, codes}
 use Rattle.qk_ast.specs.Characters.{Characters}
 use Rattle.qk_ast.specs.Tokens.{Token}
@@ -22,11 +22,14 @@ pub record Follows (i j : Input) : Type 0 where
   pub front : List Token
   pub spells : front ++ j.tokens ≡ i.tokens
 
--- a fault of nesting comes behind so many
+-- a fault stands among what is left, and one of nesting behind so many
 pub data Good {A : Type 0} (n : ℕ) (i : Input) : Outcome A → Type 0 where
   fine : {x : A} {j : Input} → Follows i j → Good n i (Ok (x, j))
-  wrong : {k : ℕ} → Good n i (Err (Syntax k))
+  out_of_place : {k : ℕ} → k ≤ length i.tokens → Good n i (Err (Syntax k))
   deep : {k : ℕ} → Deep n i.tokens k → Good n i (Err (TooDeep k))
+
+pub wrong : {A : Type 0} {n : ℕ} {i : Input} → Good {A = A} n i (Err (Syntax (length i.tokens)))
+wrong = out_of_place (omega arith)
 
 raisers_append : (ts us : List Token) → raisers (ts ++ us) ≡ raisers ts + raisers us
 raisers_append [] us = omega arith
@@ -53,18 +56,18 @@ deep_behind r d =
 -- what is good behind is good here
 pub pass : {A : Type 0} {n : ℕ} {i j : Input} {o : Outcome A} → Follows i j → Good n j o → Good n i o
 pass r (fine s) = fine (behind_both r s)
-pass r wrong = wrong
+pass {i = i} {j = j} r (out_of_place h) = let e = ap (λ ts. length ts) r.spells in let a = length-append r.front j.tokens in out_of_place (omega (arith, h, e, a))
 pass r (deep d) = deep (deep_behind r d)
 
 pub weaker : {A : Type 0} {m n : ℕ} {i : Input} {o : Outcome A} → m ≤ n → Good n i o → Good m i o
 weaker h (fine s) = fine s
-weaker h wrong = wrong
+weaker h (out_of_place k) = out_of_place k
 weaker h (deep d) = let a = d.raised in deep (record { front = d.front; behind = d.behind; spells = d.spells; place = d.place; raised = omega (arith, a, h) })
 
 -- behind a token that can raise the nesting
 pub raise : {A : Type 0} {n : ℕ} {i j : Input} {o : Outcome A} (t : Token) → can_raise t ≡ true → t ∷ j.tokens ≡ i.tokens → Good n j o → Good (suc n) i o
 raise t h e (fine s) = fine (behind_both (record { front = t ∷ []; spells = e }) s)
-raise t h e wrong = wrong
+raise t h e (out_of_place k) = let a = ap (λ ts. length ts) e in out_of_place (omega (arith, k, a))
 raise t h e (deep d) =
     let a = ap (λ b. if b then 1 + raisers d.front else raisers d.front) h in
     let b = d.raised in
@@ -75,15 +78,15 @@ skip t e g = pass (record { front = t ∷ []; spells = e }) g
 
 pub good_then : {A B : Type 0} {n : ℕ} {i : Input} {o : Outcome A} {f : A → Reader B} → Good n i o → ((x : A) (j : Input) → Good n j (f x j)) → Good n i (and_then o f)
 good_then (fine {x = x} {j = j} r) k = pass r (k x j)
-good_then wrong k = wrong
+good_then (out_of_place h) k = out_of_place h
 good_then (deep d) k = deep d
 
 pub good_later : {A B : Type 0} {n : ℕ} {i : Input} {other : Outcome A} {o : Outcome B} → Good n i other → Good n i o → Good n i (later other o)
 good_later g (fine r) = fine r
 good_later g (deep d) = deep d
-good_later (fine r) wrong = wrong
-good_later (wrong {k = m}) (wrong {k = k}) = by_bool (nat_le k m) (λ s. rw s wrong) (λ s. rw s wrong)
-good_later (deep {k = m} d) (wrong {k = k}) = by_bool (nat_le k m) (λ s. rw s wrong) (λ s. rw s (deep d))
+good_later (fine r) (out_of_place h) = out_of_place h
+good_later (out_of_place {k = m} g) (out_of_place {k = k} h) = by_bool (nat_le k m) (λ s. rw s (out_of_place h)) (λ s. rw s (out_of_place g))
+good_later (deep {k = m} d) (out_of_place {k = k} h) = by_bool (nat_le k m) (λ s. rw s (out_of_place h)) (λ s. rw s (deep d))
 
 -- either the token comes next, or it doesn't
 pub by_seen : {P : Type 0} (m : Mark) (i : Input) → (sees m i ≡ true → after m i ≡ advance i → token_of m ∷ (advance i).tokens ≡ i.tokens → P) → (sees m i ≡ false → after m i ≡ i → P) → P
@@ -102,7 +105,7 @@ expect_raises f m i h k = by_seen m i (λ s a e. rw s (raise (token_of m) h e (k
 -- two steps before the rest
 pub good_then_then : {A B C : Type 0} {n : ℕ} {i : Input} {o : Outcome A} (f : A → Reader B) (h : B → Reader C) → Good n i o → ((x : A) (j : Input) → Good n j (and_then (f x j) h)) → Good n i (and_then (and_then o f) h)
 good_then_then f h (fine {x = x} {j = j} r) k = pass r (k x j)
-good_then_then f h wrong k = wrong
+good_then_then f h (out_of_place p) k = out_of_place p
 good_then_then f h (deep d) k = deep d
 
 -- the sign of an arrow, which can raise the nesting

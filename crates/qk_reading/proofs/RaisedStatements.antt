@@ -1,5 +1,5 @@
 -- A fault of nesting comes only behind so many tokens that can raise it: elements, steps and statements.
-use Rattle.std.proofs.Common.{◌≡◌, refl, sym, ◌∙◌, ap, subst, arith, append_assoc, true≢false}
+use Rattle.std.proofs.Common.{◌≡◌, refl, sym, ◌∙◌, ap, subst, arith, append_assoc, length-append, true≢false}
 use Rattle.std.specs.Prelude.{ℕ, zero, suc, ◌-◌, ◌≤◌, Bool, true, false, ◌&&◌, ◌||◌, List, [], ◌∷◌, ◌++◌, length, ◌<◌, Option, Some, None, Result, Ok, Err, codes}
 use Rattle.qk_ast.specs.declared.Form.{Form}
 use Rattle.qk_ast.specs.declared.Module.{Module}
@@ -18,12 +18,9 @@ use Rattle.qk_reading.specs.Statements.{assign_by, step, step_by, body, held, co
 use Rattle.qk_reading.specs.Reader.{nesting, text_by, import_line, next_import, item, next_item, module_of, outcome, read_module}
 use Rattle.qk_reading.specs.Laws.{raisers, RaisedPast}
 use Rattle.qk_reading.proofs.Follow.{by_bool, clash}
-use Rattle.qk_reading.proofs.Raised.{Deep, Good, fine, wrong, deep, here, pass, weaker, raise, skip, good_then, by_seen, good_expect, expect_raises, good_name, good_enter, good_many, good_sparse}
+use Rattle.qk_reading.proofs.SoundModules.{is_ok}
+use Rattle.qk_reading.proofs.Raised.{Deep, Good, out_of_place, fine, wrong, deep, here, pass, weaker, raise, skip, good_then, by_seen, good_expect, expect_raises, good_name, good_enter, good_many, good_sparse}
 use Rattle.qk_reading.proofs.RaisedForms.{IsGood, one_behind, raise_sign, raise_word, good_names, good_pattern, good_nested, good_start, good_postfix, good_unary, good_whole}
-
-abbrev is_ok : Result Module Fault → Bool
-is_ok (Ok m) = true
-is_ok (Err f) = false
 
 abbrev is_syntax : Result Module Fault → Bool
 is_syntax (Err (Syntax k)) = true
@@ -31,7 +28,8 @@ is_syntax _ = false
 
 abbrev place_of : Result Module Fault → ℕ
 place_of (Err (TooDeep k)) = k
-place_of _ = 0
+place_of (Err (Syntax k)) = k
+place_of (Ok m) = 0
 
 good_comma_name : {n : ℕ} (i : Input) → Good n i (comma_name i)
 unfolding comma_name
@@ -318,6 +316,15 @@ raised_past deepest left ts d = go d.front d.spells d.raised
           raised = subst (λ vs. deepest < raisers vs) (sym q.2) r;
         }
 
+-- a token is out of place among the tokens, or behind them
+pub out_of_place_inside : (form : Form) (deepest left : ℕ) (ts : List Token) → read_module form deepest ts ≡ Err (Syntax left) → left ≤ length ts
+out_of_place_inside form deepest left ts e = go (module_of form deepest (at ts 0)) (good_module form deepest (at ts 0)) e
+  where
+    go : (o : Outcome Module) → Good (suc deepest) (at ts 0) o → outcome o ≡ Err (Syntax left) → left ≤ length ts
+    go (Ok p) g e = absurd (true≢false (ap is_ok e))
+    go (Err (TooDeep k)) g e = absurd (true≢false (sym (ap is_syntax e)))
+    go (Err (Syntax k)) (out_of_place h) e = subst (λ k. k ≤ length ts) (ap (λ r. place_of r) e) h
+
 -- a fault of nesting comes only where more tokens than the nesting can raise it
 pub too_deep_raised : (form : Form) (deepest left : ℕ) (ts : List Token) → read_module form deepest ts ≡ Err (TooDeep left) → RaisedPast deepest left ts
 too_deep_raised form deepest left ts e = go (module_of form deepest (at ts 0)) (good_module form deepest (at ts 0)) e
@@ -326,3 +333,10 @@ too_deep_raised form deepest left ts e = go (module_of form deepest (at ts 0)) (
     go (Ok p) g e = absurd (true≢false (ap is_ok e))
     go (Err (Syntax k)) g e = absurd (true≢false (ap is_syntax e))
     go (Err (TooDeep k)) (deep d) e = raised_past deepest left ts (subst (λ k. Deep (suc deepest) ts k) (ap (λ r. place_of r) e) d)
+
+pub too_deep_inside : (deepest left : ℕ) (ts : List Token) → RaisedPast deepest left ts → (1 ≤ left) × (left ≤ length ts)
+too_deep_inside deepest left ts r =
+    let a = r.number in
+    let b = ap (λ us. length us) r.spells in
+    let c = length-append r.front (r.place ∷ r.behind) in
+    (omega (arith, a), omega (arith, a, b, c))

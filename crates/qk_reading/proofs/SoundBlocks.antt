@@ -16,15 +16,11 @@ use Rattle.qk_reading.specs.Input.{Input, at, Nested, Sign, Word, Given, Braced,
 use Rattle.qk_reading.specs.Forms.{nested, whole, postfix}
 use Rattle.qk_reading.specs.Statements.{held, condition, constant, conditional, looping, each, word_statement, statement, statements_from, block, single, single_by, group, step}
 use Rattle.qk_reading.proofs.Framed.{framed, name_framed, reserved_framed, sign_framed, statement_framed, statements_framed, part_framed, ◌▹◌}
-use Rattle.qk_reading.proofs.Follow.{by_bool, clash}
+use Rattle.qk_reading.proofs.Follow.{by_bool, clash, both}
 use Rattle.qk_reading.proofs.Counted.{counted}
 use Rattle.qk_reading.proofs.Sound.{Sound, read, refused, sound_then, implied, Spans, spans_then, by_sees, expect_sound, name_sound, enter_sound, sign_here, word_here, Reading, Valued}
 use Rattle.qk_reading.proofs.SoundSteps.{Step_read, Block_read}
 use Rattle.qk_reading.proofs.SoundStatements.{NoElse, declares, Statement_read, declared_sound, variable_sound, scope_sound, break_sound, continue_sound, returned_sound, done_sound, deleted_sound}
-
-both : (p q : Bool) → (p && q) ≡ true → (p ≡ true) × (q ≡ true)
-both true q h = (refl, h)
-both false q h = clash {b = false} h refl
 
 no_brace_word : (a : Characters) (ts : List Token) (n : ℕ) → sees (Sign (codes "{")) (at (Token.Reserved a ∷ ts) n) ≡ false
 unfolding sees

@@ -21,7 +21,7 @@ use Rattle.qk_reading.specs.Parts.{called_with, divides, is_dividend, math, math
 use Rattle.qk_reading.specs.Forms.{nested, called, trunc, trunc_by, trunc_from, more_by, head, atom}
 use Rattle.qk_ast.proofs.FrontToken.{same_is}
 use Rattle.qk_reading.proofs.Framed.{Framed, framed, arguments_framed, sign_framed, name_framed, comma_framed, ◌▹◌}
-use Rattle.qk_reading.proofs.Follow.{by_bool, clash}
+use Rattle.qk_reading.proofs.Follow.{by_bool, both}
 use Rattle.qk_reading.proofs.Counted.{kind, tight_kind}
 use Rattle.qk_reading.proofs.Atoms.{le_binds}
 use Rattle.qk_reading.proofs.Lists.{ends_comma}
@@ -46,10 +46,6 @@ dotted_call : (object method a b c d : Characters) (us : List Token) → same a 
     → Token.Name a ∷ Token.Punct b ∷ Token.Name c ∷ Token.Punct d ∷ us ≡ Token.Name object ∷ Token.Punct (codes ".") ∷ Token.Name method ∷ Token.Punct (codes "(") ∷ us
 dotted_call object method a b c d us h k m n = ap₂ (λ (x : Characters × Characters) (y : Characters × Characters). Token.Name (x.0) ∷ Token.Punct (x.1) ∷ Token.Name (y.0) ∷ Token.Punct (y.1) ∷ us)
     (ap₂ (λ a b. (a, b)) (same_is a object h) (same_is b (codes ".") k)) (ap₂ (λ a b. (a, b)) (same_is c method m) (same_is d (codes "(") n))
-
-both : (p q : Bool) → (p && q) ≡ true → (p ≡ true) × (q ≡ true)
-both true q h = (refl, h)
-both false q h = clash {b = false} h refl
 
 dotted_known : (a b c d : Characters) (us : List Token) → same b (codes ".") ≡ true → same b (codes "(") ≡ false → same d (codes "(") ≡ true
     → Begins_known (Token.Name a ∷ Token.Punct b ∷ Token.Name c ∷ Token.Punct d ∷ us) (known_ahead (Token.Name a ∷ Token.Punct b ∷ Token.Name c ∷ Token.Punct d ∷ us))

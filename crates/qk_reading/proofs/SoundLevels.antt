@@ -25,7 +25,7 @@ use Rattle.qk_reading.specs.Parts.{operand, chain, chained, arrow_head, later}
 use Rattle.qk_reading.specs.Forms.{product, sum, order, equality, conjunction, logic, logic_by, choice, arrow, whole, unary, postfix, nested}
 use Rattle.qk_ast.proofs.FrontToken.{same_is}
 use Rattle.qk_reading.proofs.Framed.{Framed, framed, bin_framed, un_framed, parameters_framed, sign_framed, ◌▹◌}
-use Rattle.qk_reading.proofs.Follow.{by_bool, clash, operand_above}
+use Rattle.qk_reading.proofs.Follow.{by_bool, both, operand_above}
 use Rattle.qk_reading.proofs.Counted.{counted, sign_uncounted, tight_kind}
 use Rattle.qk_reading.proofs.Atoms.{binds_le, le_binds}
 use Rattle.qk_reading.proofs.Sound.{Maybe_read, Many, no_more, one_more, many_sound, Sound, read, refused, sound_then, implied, Spans, spans_then, by_sees, expect_sound, Reading, Valued, max_le, mark_seen}
@@ -96,10 +96,6 @@ operator_seen level (Token.Punct a ∷ ts) op h = go (bin_of a) refl h
 operator_seen level (t ∷ ts) op h = none_some h
 
 -- ---- chains
-
-second : (p q : Bool) → (p && q) ≡ true → q ≡ true
-second true q h = h
-second false q h = clash {b = false} h refl
 
 -- what an arrow's body is read as
 pub record Body_read (form : Form) (room : ℕ) (i : Input) (x : Tree_body) (j : Input) : Type 0 where
@@ -272,7 +268,7 @@ module _ (form : Form) (room : ℕ) (inner : Nested) where
 
     pub logic_sound : (i : Input) → Sound (Reading form (suc room) 1 i) (logic form room inner i)
     unfolding logic
-    logic_sound i = sound_then (conjunction_sound i) (λ x j v. logic_by_sound i j x (sees (Sign (codes "??")) j && nat_le 3 (kind_tightness x.kind)) (λ h. leb→le 3 (kind_tightness x.kind) (subst T (sym (second (sees (Sign (codes "??")) j) (nat_le 3 (kind_tightness x.kind)) h)) tt)) v)
+    logic_sound i = sound_then (conjunction_sound i) (λ x j v. logic_by_sound i j x (sees (Sign (codes "??")) j && nat_le 3 (kind_tightness x.kind)) (λ h. leb→le 3 (kind_tightness x.kind) (subst T (sym (both (sees (Sign (codes "??")) j) (nat_le 3 (kind_tightness x.kind)) h).1) tt)) v)
 
     chosen : (i a b c d k : Input) (x : Read) (y z : Expr) → Reading form (suc room) 1 i x a → Spans (sign (codes "?")) a b → Valued form room b y c → Spans (sign (codes ":")) c d → Valued form room d z k
         → Reading form (suc room) 0 i (reading (e.Cond x.tree y z) Loose) k

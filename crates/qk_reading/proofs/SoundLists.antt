@@ -125,10 +125,6 @@ module _ (form : Form) (room : ℕ) (inner : Nested) (nested_sound : (i : Input)
     pub key : key_of text ≡ x.key
     pub spans : Spans (field_tokens text) i j
 
-  field_value_sound : (key : List ℕ) (i : Input) → Sound (λ f j. (mid : Input) × Spans (sign (codes ":")) i mid × Valued form room mid f.value j × (key ≡ f.key)) (field_value form room inner key i)
-  unfolding field_value
-  field_value_sound key i = sound_then (expect_sound (Sign (codes ":")) i refl) (λ _ mid c. sound_then (nested_sound mid) (λ x j v. read (mid, c, v, refl)))
-
   field_free : (so_far : List Tree_field) (a : Characters) (ts : List Token) (n : ℕ) (mid j : Input) (x : Expr) → is_one_of (bytes a) (keys so_far) ≡ false
       → Spans (sign (codes ":")) (at ts n) mid → Valued form room mid x j → Field_read so_far (at (Token.Name a ∷ ts) n) (record { key = bytes a; value = x }) j
   field_free so_far a ts n mid j x s c v =

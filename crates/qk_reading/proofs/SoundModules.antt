@@ -28,7 +28,7 @@ abbrev module_or : Module → Result Module Fault → Module
 module_or n (Ok m) = m
 module_or n (Err f) = n
 
-abbrev is_ok : Result Module Fault → Bool
+abbrev pub is_ok : Result Module Fault → Bool
 is_ok (Ok m) = true
 is_ok (Err f) = false
 

@@ -1,5 +1,5 @@
 -- What is read is written by the rules: steps and bodies.
-use Rattle.std.proofs.Common.{◌≡◌, refl, sym, ◌∙◌, ap, ap₂, subst, arith, true≢false}
+use Rattle.std.proofs.Common.{◌≡◌, refl, sym, ◌∙◌, ap, ap₂, subst, arith}
 use Rattle.std.specs.Prelude.{ℕ, suc, ◌+◌, ◌≤◌, Bool, true, false, List, [], ◌∷◌, ◌++◌, Option, Some, None, codes}
 use Rattle.qk_ast.specs.declared.Form.{Form}
 use Rattle.qk_ast.specs.declared.Expr.{Expr}
@@ -15,7 +15,7 @@ use Rattle.qk_ast.specs.Spelling.{Writing, ◌⨾◌, sign, tokens, assign_sign 
 use Rattle.qk_ast.specs.Depth.{inside, step_depth, statements_depth}
 use Rattle.qk_ast.specs.Tree.{arrows, step_tree, statements_tree}
 use Rattle.qk_ast.specs.Rules.{is_target, begins_with_brace, step_keeps, statements_keep}
-use Rattle.qk_reading.specs.Input.{Input, Nested, Read, Sign, Braced, maybe, first_is, rest, advance, sees}
+use Rattle.qk_reading.specs.Input.{Input, Nested, Read, Sign, Braced, first_is, rest, advance, sees}
 use Rattle.qk_reading.specs.Ahead.{is_target_kind, assign_at, bump_at, assign_sign, bump_sign}
 use Rattle.qk_reading.specs.Forms.{whole}
 use Rattle.qk_reading.specs.Statements.{assign_by, step, step_by, body}
@@ -27,12 +27,6 @@ use Rattle.qk_reading.proofs.Sound.{Sound, read, sound_then, Spans, spans_then, 
 use Rattle.qk_reading.proofs.SoundLevels.{Body_read}
 
 -- ---- signs
-
-some_is : {A : Type 0} {a b : A} → Some a ≡ Some b → a ≡ b
-some_is {a = a} e = ap (λ o. maybe o a (λ x. x)) e
-
-none_some : {A : Type 0} {P : Type 0} {a : A} → None ≡ Some a → P
-none_some e = absurd (true≢false (sym (ap (λ o. maybe o false (λ _. true)) e)))
 
 abbrev Spelt_by : {A : Type 0} → (A → Writing) → List Token → Option A → Type 0
 Spelt_by w ts None = Unit {0}

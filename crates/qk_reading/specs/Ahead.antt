@@ -1,5 +1,5 @@
 -- What the reader sees of the tokens ahead: operators, whether an arrow comes, whether a known call does.
-use Rattle.std.specs.Prelude.{ℕ, ◌-◌, Bool, true, false, ◌&&◌, ◌||◌, if◌then◌else◌, List, [], ◌∷◌, ◌++◌, Option, Some, None, Ok, codes}
+use Rattle.std.specs.Prelude.{ℕ, Bool, true, false, ◌&&◌, if◌then◌else◌, List, [], ◌∷◌, Option, Some, None, Ok, codes}
 use Rattle.qk_ast.specs.declared.Bin.{Bin}
 use Rattle.qk_ast.specs.declared.Bin.TheVariants as bin
 use Rattle.qk_ast.specs.declared.AssignOp.{AssignOp}
@@ -10,7 +10,7 @@ use Rattle.qk_ast.specs.Characters.{Characters, same}
 use Rattle.qk_ast.specs.Tokens.{Token}
 use Rattle.qk_ast.specs.Rules.{tightness_of, is_of_level}
 use Rattle.qk_ast.specs.Grammar.{Level}
-use Rattle.qk_reading.specs.Input.{Input, Reader, maybe, Kind, Loose, Chained, Prefixed, Called, Member, Bare, Atomic, Sign, is, first, first_is, rest, advance, name}
+use Rattle.qk_reading.specs.Input.{Input, Reader, maybe, Kind, Loose, Chained, Prefixed, Called, Member, Bare, Atomic, Sign, is, first, first_is, rest, advance}
 
 -- ---- kinds
 

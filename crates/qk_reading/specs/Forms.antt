@@ -1,5 +1,5 @@
 -- The rules of the reader for expressions. Each has the form, so much room for nesting, and what reads one level further in.
-use Rattle.std.specs.Prelude.{ℕ, zero, suc, ◌-◌, Bool, true, false, ◌&&◌, ◌||◌, if◌then◌else◌, nat_le, List, [], ◌∷◌, ◌++◌, Option, Some, None, Ok, pos, codes}
+use Rattle.std.specs.Prelude.{ℕ, zero, suc, Bool, true, false, ◌&&◌, if◌then◌else◌, nat_le, List, [], ◌∷◌, ◌++◌, Option, Some, None, Ok, pos, codes}
 use Rattle.qk_ast.specs.declared.Form.{Form}
 use Rattle.qk_ast.specs.declared.Expr.{Expr}
 use Rattle.qk_ast.specs.declared.Expr.TheVariants as e
@@ -17,9 +17,9 @@ use Rattle.qk_ast.specs.Tokens.{Token, Edge, is_tag_name}
 use Rattle.qk_ast.specs.JsxText.{jsx_text, decoded}
 use Rattle.qk_ast.specs.Tree.{bytes, value, tag_tree}
 use Rattle.qk_ast.specs.Grammar.{Or_level, Coalesce_level, And_level, Same_level, Order_level, Sum_level, Product_level}
-use Rattle.qk_reading.specs.Input.{Reader, ◌>>=◌, ◌>>◌, ◌<$>◌, pure, maybe, Kind, Loose, Prefixed, Called, Member, Bare, Atomic, Read, reading, Head, headed, Inner, Whole, Tight, Tagged, Untagged, Nested, Mark, Sign, left, refuse, peek, take_token, look, eat, expect, name_that, name, enter, many, sparse, separated, separated_from, collected}
+use Rattle.qk_reading.specs.Input.{Reader, ◌>>=◌, ◌>>◌, ◌<$>◌, pure, maybe, Kind, Loose, Prefixed, Called, Member, Bare, Atomic, Read, reading, Head, headed, Inner, Whole, Tight, Tagged, Untagged, Nested, Mark, Sign, left, refuse, peek, take_token, look, eat, expect, name_that, enter, many, sparse, separated, separated_from, collected}
 use Rattle.qk_reading.specs.Ahead.{kind_tightness, arrow_ahead, known_ahead}
-use Rattle.qk_reading.specs.Parts.{params, arrow_head, later, chained, linked, plain_head, atomic, child_text, keys, literal, called_with, fresh, part, word_by, math_links, math, divides, skip_dotted, dot_by, operand, chain}
+use Rattle.qk_reading.specs.Parts.{arrow_head, later, chained, linked, plain_head, atomic, child_text, literal, called_with, fresh, part, word_by, math_links, math, divides, skip_dotted, dot_by, operand, chain}
 
 module _ (form : Form) (room : ℕ) (inner : Nested) where
   abbrev pub nested : Reader Expr

@@ -60,3 +60,9 @@ pub record RaisedPast (deepest left : ℕ) (ts : List Token) : Type 0 where
 -- a token is found too deep only where so many tokens can raise the nesting
 abbrev pub TooDeepOnlyWhereRaised : Type 0
 TooDeepOnlyWhereRaised = (form : Form) (deepest left : ℕ) (ts : List Token) → read_module form deepest ts ≡ Err (TooDeep left) → RaisedPast deepest left ts
+
+-- a fault stands at one of the tokens, or behind all of them where the text ends too early
+abbrev pub FaultsInside : Type 0
+FaultsInside = (form : Form) (deepest left : ℕ) (ts : List Token)
+    → (read_module form deepest ts ≡ Err (Syntax left) → left ≤ length ts)
+    × (read_module form deepest ts ≡ Err (TooDeep left) → (1 ≤ left) × (left ≤ length ts))

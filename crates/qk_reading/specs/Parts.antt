@@ -15,7 +15,7 @@ use Rattle.qk_ast.specs.Characters.{Characters, same, is_one_of}
 use Rattle.qk_ast.specs.Tokens.{Token, Edge}
 use Rattle.qk_ast.specs.Tree.{bytes, value}
 use Rattle.qk_ast.specs.Grammar.{Level}
-use Rattle.qk_reading.specs.Input.{Input, at, Syntax, TooDeep, Outcome, Reader, ◌>>=◌, ◌>>◌, ◌<$>◌, pure, maybe, Kind, Chained, Called, Atomic, Read, reading, Head, headed, Sign, Given, is, first_is, refuse, peek, take_token, look, eat, expect, name, number, enter, many, separated}
+use Rattle.qk_reading.specs.Input.{Input, Syntax, TooDeep, Outcome, Reader, ◌>>=◌, ◌>>◌, ◌<$>◌, pure, maybe, Kind, Chained, Called, Atomic, Read, reading, Head, headed, Sign, Given, first_is, refuse, peek, take_token, look, eat, expect, name, number, enter, many, separated}
 use Rattle.qk_reading.specs.Ahead.{kind_tightness, operator}
 
 -- ---- names and patterns

@@ -1,13 +1,12 @@
 -- The reader of modules: each rule decides by the tokens ahead. Rules for what nests less deep call those for what nests deeper by one parameter.
-use Rattle.std.specs.Prelude.{ℕ, zero, suc, ◌-◌, Bool, true, false, List, Option, Some, None, Result, Ok, Err, codes}
+use Rattle.std.specs.Prelude.{ℕ, zero, suc, Bool, true, false, List, Option, Some, None, Result, Ok, Err, codes}
 use Rattle.qk_ast.specs.declared.Form.{Form}
 use Rattle.qk_ast.specs.declared.Module.{Module}
 use Rattle.qk_ast.specs.declared.Import.{Import}
 use Rattle.qk_ast.specs.declared.Item.{Item}
-use Rattle.qk_ast.specs.declared.Pattern.TheVariants as p
 use Rattle.qk_ast.specs.Tokens.{Token}
 use Rattle.qk_ast.specs.Tree.{bytes, value}
-use Rattle.qk_reading.specs.Input.{at, Fault, Outcome, Reader, ◌>>=◌, ◌>>◌, ◌<$>◌, pure, Nested, Sign, Word, Given, refuse, peek, take_token, look, eat, expect, name, number, too_deep, enter, is_end, many}
+use Rattle.qk_reading.specs.Input.{at, Fault, Outcome, Reader, ◌>>=◌, ◌>>◌, ◌<$>◌, pure, Nested, Sign, Word, Given, refuse, peek, take_token, look, eat, expect, name, too_deep, enter, is_end, many}
 use Rattle.qk_reading.specs.Parts.{names}
 use Rattle.qk_reading.specs.Forms.{whole, level}
 use Rattle.qk_reading.specs.Statements.{body, group}

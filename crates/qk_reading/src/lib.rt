@@ -2,7 +2,7 @@
 //! Each law is the contract of a function that does nothing.
 #![tactic(auto)]
 
-ghost use Rattle.qk_reading.specs.Laws.{FaultsExactly, OneModule, OneParse, ReadsExactly, SyntaxOnlyWhereNone, TooDeepOnlyWhereRaised};
+ghost use Rattle.qk_reading.specs.Laws.{FaultsExactly, FaultsInside, OneModule, OneParse, ReadsExactly, SyntaxOnlyWhereNone, TooDeepOnlyWhereRaised};
 
 /// A text derives one module at most in a form.
 pub fn one_module()
@@ -32,4 +32,9 @@ pub fn syntax_only_where_none()
 /// The reader finds a token too deep only where more tokens up to it can raise the nesting than the nesting allows.
 pub fn too_deep_only_where_raised()
     ensures { TooDeepOnlyWhereRaised }
+{}
+
+/// A fault stands at one of the tokens; Syntax also behind all of them, where the text ends too early.
+pub fn faults_inside()
+    ensures { FaultsInside }
 {}
