@@ -28,3 +28,4 @@ mod SoundModules
 mod Raised
 mod RaisedForms
 mod RaisedStatements
+mod TextsRead

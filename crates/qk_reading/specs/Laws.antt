@@ -1,11 +1,12 @@
 -- The laws of reading: a text has one module, and the reader answers it exactly.
-use Rattle.std.specs.Prelude.{◌≡◌, ◌≤◌, ◌<◌, ℕ, ◌+◌, Bool, true, false, if◌then◌else◌, List, [], ◌∷◌, ◌++◌, map, length, Ok, Err, codes}
+use Rattle.std.specs.Prelude.{◌≡◌, ◌≤◌, ◌<◌, ℕ, ◌+◌, Bool, true, false, if◌then◌else◌, List, [], ◌∷◌, ◌++◌, map, length, Ok, Err, IsTrue, codes}
+use Rattle.std.specs.Str.{encode_utf8_all, all_scalars}
 use Rattle.qk_ast.specs.declared.Form.{Form}
 use Rattle.qk_ast.specs.declared.Module.{Module}
-use Rattle.qk_ast.specs.Characters.{is_one_of}
-use Rattle.qk_ast.specs.Tokens.{Token, Edge}
+use Rattle.qk_ast.specs.Characters.{Characters, is_one_of}
+use Rattle.qk_ast.specs.Tokens.{Token, Tokens, Edge}
 use Rattle.qk_ast.specs.Depth.{module_depth}
-use Rattle.qk_ast.specs.Derives.{Parses, Derives}
+use Rattle.qk_ast.specs.Derives.{Parses, Derives, longest, deepest}
 use Rattle.qk_reading.specs.Input.{Fault, Syntax, TooDeep}
 use Rattle.qk_reading.specs.Reader.{read_module}
 
@@ -66,3 +67,8 @@ abbrev pub FaultsInside : Type 0
 FaultsInside = (form : Form) (deepest left : ℕ) (ts : List Token)
     → (read_module form deepest ts ≡ Err (Syntax left) → left ≤ length ts)
     × (read_module form deepest ts ≡ Err (TooDeep left) → (1 ≤ left) × (left ≤ length ts))
+
+-- a text that is short enough derives a module exactly where the reader answers it to the text's tokens
+abbrev pub ReadsTexts : Type 0
+ReadsTexts = (form : Form) (text : Characters) (ts : List Token) (m : Module) → IsTrue (all_scalars text) → length (encode_utf8_all text) ≤ longest form → Tokens text ts
+    → (Derives form (encode_utf8_all text) m → read_module form (deepest form) ts ≡ Ok m) × (read_module form (deepest form) ts ≡ Ok m → Derives form (encode_utf8_all text) m)

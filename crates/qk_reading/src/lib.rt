@@ -2,7 +2,7 @@
 //! Each law is the contract of a function that does nothing.
 #![tactic(auto)]
 
-ghost use Rattle.qk_reading.specs.Laws.{FaultsExactly, FaultsInside, OneModule, OneParse, ReadsExactly, SyntaxOnlyWhereNone, TooDeepOnlyWhereRaised};
+ghost use Rattle.qk_reading.specs.Laws.{FaultsExactly, FaultsInside, OneModule, OneParse, ReadsExactly, ReadsTexts, SyntaxOnlyWhereNone, TooDeepOnlyWhereRaised};
 
 /// A text derives one module at most in a form.
 pub fn one_module()
@@ -22,6 +22,11 @@ pub fn reads_exactly()
 /// The reader refuses exactly where the tokens derive no module within the nesting.
 pub fn faults_exactly()
     ensures { FaultsExactly }
+{}
+
+/// A text that is short enough derives a module exactly where the reader answers it to the text's tokens.
+pub fn reads_texts()
+    ensures { ReadsTexts }
 {}
 
 /// The reader finds a token out of place only where no module of any nesting has the tokens.
