@@ -3,9 +3,9 @@ pub mod Complete
 pub mod Names
 pub mod Pieces
 pub mod Plain
+pub mod Slices
 pub mod Sound
 pub mod Standing
 pub mod Steps
 pub mod Trees
 pub mod Turns
-pub mod Words

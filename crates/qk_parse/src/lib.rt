@@ -7,14 +7,13 @@ ghost use Rattle.qk_parse.specs.Answer.{FirstReading};
 mod fault;
 mod first;
 mod source;
-mod tree;
-
 #[cfg(test)]
 mod tests;
-
-pub use fault::ParseFault;
+mod tree;
+mod words;
 
 use fault::Fault;
+pub use fault::ParseFault;
 use first::first;
 use qk_ast::Module;
 use source::Source;
