@@ -7,14 +7,16 @@ ghost use Rattle.qk_parse.specs.Answer.{FirstReading};
 mod fault;
 mod first;
 mod source;
-mod tree;
-
 #[cfg(test)]
 mod tests;
-
-pub use fault::ParseFault;
+mod tree;
+<<<<<<< HEAD
+=======
+mod words;
+>>>>>>> 116451520cc44fb8a6b6c86deeb81bbbd4c5898c
 
 use fault::Fault;
+pub use fault::ParseFault;
 use first::first;
 use qk_ast::Module;
 use source::Source;

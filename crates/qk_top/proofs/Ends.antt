@@ -97,9 +97,11 @@ module _ (words : List Text) (told : Files) where
   -- the line `memory` behind a front of what was played
   memory_whole : (before between after : Option Text) (f g status n : ℕ) (text : Text) {was : ℕ} → Answers words told was text → between ≡ option_map (with_piece (take n text)) before → PutsLastLine Memory between after f g status → ¬ (status ≡ 7) → Whole before after status
   unfolding Whole
-  memory_whole before between after f g status n text answer part (whole e put kept) other =
-      (take n text ++ last_line_of Memory, subst (λ s. Answers words told s (take n text ++ last_line_of Memory)) (sym e) (memory n answer),
-       put ∙ ap (option_map (with_piece (last_line_of Memory))) part ∙ pieces_join (take n text) (last_line_of Memory) before)
+  memory_whole before between after f g status n text answer part (whole e put kept) other = (
+    take n text ++ last_line_of Memory,
+    subst (λ s. Answers words told s (take n text ++ last_line_of Memory)) (sym e) (memory n answer),
+    put ∙ ap (option_map (with_piece (last_line_of Memory))) part ∙ pieces_join (take n text) (last_line_of Memory) before,
+  )
   memory_whole before between after f g status n text answer part (in_part e front rose later) other = absurd (other e)
   memory_whole before between after f g status n text answer part (in_want e kept faults) other =
       (take n text, subst (λ s. Answers words told s (take n text)) (sym e) (memory_alone n answer), kept ∙ part)

@@ -235,9 +235,14 @@ clicks_end id (next ∷ more) =
 cut_last : (text id : Text) (more : List Text) → IsShortWord id → line text ≡ clicks_text (id ∷ more) → (after : Text) × IsCut text (click_line id) after
 cut_last text id [] word e = ([], record { plain = click_no_feed id word; parts = inr (feed_ends text (click_line id) (e ∙ append-nil (line (click_line id))), refl) })
 cut_last text id (next ∷ more) word e =
-    let ending = clicks_end next more in
-    (ending.0, record { plain = click_no_feed id word; parts = inl (feed_ends text (click_line id ++ (10 ∷ ending.0))
-        (e ∙ ap (λ r. line (click_line id) ++ r) ending.1 ∙ line_then (click_line id) (line ending.0) ∙ sym (line_behind (click_line id) ending.0))) })
+    let ending = clicks_end next more in (
+      ending.0,
+      record {
+        plain = click_no_feed id word;
+        parts = inl (feed_ends text (click_line id ++ (10 ∷ ending.0))
+            (e ∙ ap (λ r. line (click_line id) ++ r) ending.1 ∙ line_then (click_line id) (line ending.0) ∙ sym (line_behind (click_line id) ending.0)));
+      },
+    )
 
 cut_clicks : (text id : Text) (more : List Text) → IsShortWord id → Clicks text (id ∷ more) → (after : Text) × IsCut text (click_line id) after
 cut_clicks text id more word (inl e) = (clicks_text more, record { plain = click_no_feed id word; parts = inl (e ∙ line_then (click_line id) (clicks_text more)) })
