@@ -97,12 +97,7 @@ fn signal_name<'a>(source: &mut Source<'a>) -> Result<Word<'a>, Fault>
     ensures { Reads (spec.signal_name source.old) result source.new }
 {
     let name = source.word(Kind::Code);
-<<<<<<< HEAD
-    let word = name.as_bytes();
-    if is_short_word(word) && !is_one_of(word, &RESERVED_WORDS) && !is_one_of(word, &KNOWN_NAMES) {
-=======
     if is_signal_name(name.as_bytes()) {
->>>>>>> 116451520cc44fb8a6b6c86deeb81bbbd4c5898c
         Ok(name)
     } else {
         Err(Fault::Refused)
@@ -253,14 +248,7 @@ fn attributes(
     let Some(second) = attribute(alloc, source, signal)? else {
         return Ok(one(alloc, first)?);
     };
-<<<<<<< HEAD
-    if is_same(
-        second.key.as_str().as_bytes(),
-        first.key.as_str().as_bytes(),
-    ) {
-=======
     if have_one_name(&second, &first) {
->>>>>>> 116451520cc44fb8a6b6c86deeb81bbbd4c5898c
         return Err(Fault::Refused);
     }
     Ok(two(alloc, first, second)?)

@@ -10,10 +10,7 @@ mod source;
 #[cfg(test)]
 mod tests;
 mod tree;
-<<<<<<< HEAD
-=======
 mod words;
->>>>>>> 116451520cc44fb8a6b6c86deeb81bbbd4c5898c
 
 use fault::Fault;
 pub use fault::ParseFault;
