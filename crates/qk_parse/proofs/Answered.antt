@@ -1,19 +1,18 @@
 -- What the reader answers of a text is what the first form says of it.
-use Rattle.std.specs.Prelude.{◌≡◌, ◌≢◌, ◌≤◌, refl, ℕ, Bool, true, false, List, [], ◌∷◌, length, Option, Some, None, Result, Ok, Err, IsTrue}
-use Rattle.std.specs.Str.{encode_utf8_all}
+use Rattle.std.specs.Prelude.{◌≡◌, ◌≢◌, ◌≤◌, ℕ, Bool, true, false, List, [], length, None, Result, Ok, Err}
 use mathlib.Core.Path.{sym, ◌∙◌, ap, subst}
 use Rattle.std.proofs.lemmas.Bool.{false≢true}
 use Rattle.qk_ast.specs.declared.Module.{Module}
 use Rattle.qk_ast.specs.Characters.{Characters}
-use Rattle.qk_ast.specs.Tokens.{written, tokens_of}
+use Rattle.qk_ast.specs.Tokens.{tokens_of}
 use Rattle.qk_ast.specs.Spelling.{module_tokens}
-use Rattle.qk_ast.specs.First.{HasFirstForm, First_text, Fits, module_of}
+use Rattle.qk_ast.specs.First.{HasFirstForm, module_of}
 use Rattle.qk_parse.specs.declared.fault.Fault.{Fault}
 use Rattle.qk_parse.specs.declared.fault.Fault.TheVariants.{Memory, Refused}
 use Rattle.qk_parse.specs.Reader.{first}
-use Rattle.qk_parse.proofs.Standing.{Stand, stand_of, written_of, WrittenAs, is_ascii, stand_ascii}
+use Rattle.qk_parse.proofs.Standing.{Stand, stand_of, written_of, stand_ascii}
 use Rattle.qk_parse.proofs.Steps.{Said, said}
-use Rattle.qk_parse.proofs.Trees.{tree_of, tree_is}
+use Rattle.qk_parse.proofs.Trees.{tree_is}
 use Rattle.qk_parse.proofs.Plain.{module_plain, ascii_bytes, ascii_scalars}
 use Rattle.qk_parse.proofs.Sound.{FirstRead, first_good}
 use Rattle.qk_parse.proofs.Complete.{first_reach}

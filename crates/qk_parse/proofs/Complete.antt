@@ -1,20 +1,18 @@
 -- The reader reads every text of the first form.
-use Rattle.std.specs.Prelude.{◌≡◌, Ok, Err, refl, ℕ, zero, suc, ◌+◌, ◌≤◌, Bool, true, false, not, ◌&&◌, ◌||◌, if◌then◌else◌, ◌==◌, List, [], ◌∷◌, ◌++◌, length, map, Option, Some, None, codes, nat_le, nat_lt, IsTrue}
-use mathlib.Core.Path.{sym, ◌∙◌, ap, subst}
+use Rattle.std.specs.Prelude.{◌≡◌, Ok, Err, refl, ℕ, zero, suc, ◌≤◌, Bool, true, false, not, ◌&&◌, ◌||◌, if◌then◌else◌, List, [], ◌∷◌, ◌++◌, length, map, Option, Some, None, codes, nat_le, nat_lt, IsTrue}
+use mathlib.Core.Path.{◌∙◌, ap, subst}
 use Rattle.std.proofs.lemmas.Bool.{false≢true}
 use Rattle.std.proofs.lemmas.List.{append_assoc, length-append}
 use Rattle.std.proofs.lemmas.Bool.Decides.{nat_tests}
 use native.Mathlib.Omega.{arith}
-use Rattle.qk_ast.specs.declared.Module.{Module}
 use Rattle.qk_ast.specs.declared.Import.{Import}
 use Rattle.qk_ast.specs.declared.Expr.{Expr}
 use Rattle.qk_ast.specs.declared.Expr.TheVariants as e
-use Rattle.qk_ast.specs.declared.Body.TheVariants as b
 use Rattle.qk_ast.specs.declared.Jsx.{Jsx, roll-Jsx}
 use Rattle.qk_ast.specs.declared.Tag.TheVariants as t
 use Rattle.qk_ast.specs.declared.Field.{Field}
-use Rattle.qk_ast.specs.Characters.{Characters, same, is_one_of, begins_with, every, is_front, is_digit, is_small_letter, number_after}
-use Rattle.qk_ast.specs.Tokens.{Token, Name, Reserved, Int, Text, Attribute, Punct, Begin, Piece, Around, Braces, In_tag, In_end, Children, Blank, Space, Line, Block, after, spelling, gap_spelling, reserved_words, is_int, is_word, is_token, is_attribute_name}
+use Rattle.qk_ast.specs.Characters.{Characters, same, is_one_of, begins_with, every, is_front, is_digit, number_after}
+use Rattle.qk_ast.specs.Tokens.{Token, Name, Reserved, Int, Text, Attribute, Punct, Begin, Piece, Around, Braces, In_end, Children, Blank, Space, Line, Block, after, spelling, gap_spelling, is_int, is_word}
 use Rattle.qk_ast.specs.Grammar.{Children as Inside}
 use Rattle.qk_ast.specs.Grammar.{Element, Attributes, Names, Last_name, Last_comma, Next_name}
 use Rattle.qk_ast.specs.Rules.{is_distinct}
@@ -27,13 +25,13 @@ use Rattle.qk_parse.specs.declared.first.Signal.{Signal}
 use Rattle.qk_parse.specs.declared.source.Kind.TheVariants.{Code, Tag}
 use Rattle.qk_parse.specs.declared.fault.Fault.TheVariants.{Refused}
 use Rattle.qk_parse.specs.Input.{Outcome, Reader, and_then, ◌>>=◌, ◌>>◌, continues, word_here, pure, refuse, word, expect, expect_here, keyword, sees, eat, eat_here, finish, after_blanks, is_empty}
-use Rattle.qk_parse.specs.Reader.{bytes, arrow, name, is_new, more, names_from, names, import_line, small_number, begins_well, number_by, number, signal_name, declaration, state, value, id_attribute, bump, click_attribute, attribute_named, attribute, after_second, after_first, attributes, children, tag, element, may_stand, opening, closing, component, module_with, first}
-use Rattle.qk_parse.proofs.Standing.{ended, Put, Ends, Stand, First, first_token, last_gap, gap_blanks, is_ascii, every_last}
-use Rattle.qk_parse.proofs.Steps.{both, done, same_refl, Reached, reached, reach_then, if_reach, unless_reach, is_solid, skipped, put_solid, put_all_ascii, put_here, put_blanked, Blanked, blank_front, expect_is, expect_here_is, word_here_is, eat_here_is, eat_here_not, sign_reach, eat_reach, eat_not_reach, unseen_at, seen_at, word_reach, keyword_reach, ends_code}
+use Rattle.qk_parse.specs.Reader.{bytes, name, is_new, more, names_from, names, import_line, small_number, begins_well, number_by, number, is_signal_name, signal_name, declaration, state, value, id_attribute, bump, click_attribute, attribute_named, attribute, after_second, after_first, attributes, children, tag, element, may_stand, opening, closing, component, module_with, first}
+use Rattle.qk_parse.proofs.Standing.{ended, Put, Ends, Stand, first_token, last_gap, gap_blanks, is_ascii, every_last}
+use Rattle.qk_parse.proofs.Steps.{both, done, Reached, reached, reach_then, if_reach, unless_reach, is_solid, skipped, put_solid, put_all_ascii, put_here, put_blanked, blank_front, expect_is, expect_here_is, word_here_is, eat_here_is, eat_here_not, sign_reach, eat_reach, eat_not_reach, unseen_at, seen_at, word_reach, keyword_reach, ends_code}
 use Rattle.qk_parse.proofs.Names.{every_maps, fresh, fresh_distinct, names_bytes, small_is, int_begins}
-use Rattle.qk_parse.proofs.Trees.{shown, field_of, children_of, jsx_of, signal_of, tree_of, short_small, by_attributes}
+use Rattle.qk_parse.proofs.Trees.{shown, field_of, children_of, jsx_of, signal_of, by_attributes}
 use Rattle.qk_parse.proofs.Sound.{import_tokens_of, whole_tokens, whole}
-use Rattle.qk_parse.proofs.Pieces.{Here, In, name_of, is_there, NameFits, NameToken, name_short, value_tokens, one_attribute, first_attribute, state_tokens, inside, open_shape, initial_small, rest_tag, tag_ends, tag_solid, tag_continues, qwik_solid, qwik_continues, qwik_no_brace, short_code, short_tag, short_solid}
+use Rattle.qk_parse.proofs.Pieces.{Here, In, name_of, is_there, NameFits, name_short, value_tokens, one_attribute, first_attribute, state_tokens, inside, open_shape, initial_small, rest_tag, tag_ends, tag_solid, tag_continues, qwik_solid, qwik_continues, qwik_no_brace, short_code, short_tag, short_solid}
 
 -- ---- NAME.value
 
@@ -330,7 +328,7 @@ number_reach ds before ts i small a s =
     }))
 
 abbrev name_end : Characters → Reader Characters
-name_end w = if is_short_word w && not (is_one_of w reserved_words) && not (is_one_of w (map codes ("console" ∷ "qrl" ∷ []))) then pure w else refuse
+name_end w = if is_signal_name w then pure w else refuse
 
 signal_name_reach : (w : Characters) (before : Option Token) (ts : List Token) (i : Characters) → NameFits w → IsTrue (is_ascii i) → Stand Here before (Name w ∷ ts) i
     → Reached (signal_name i) w Here (Some (Name w)) ts

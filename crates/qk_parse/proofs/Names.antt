@@ -1,5 +1,5 @@
 -- The names of an import, the numbers and the short words: what the reader tries of them is what the form asks.
-use Rattle.std.specs.Prelude.{◌≡◌, refl, ℕ, zero, suc, ◌+◌, ◌*◌, ◌≤◌, Bool, true, false, not, ◌&&◌, ◌||◌, ◌==◌, if◌then◌else◌, nat_lt, nat_le, List, [], ◌∷◌, ◌++◌, length, map, Option, Some, None, codes, IsTrue}
+use Rattle.std.specs.Prelude.{◌≡◌, refl, ℕ, ◌+◌, ◌*◌, ◌≤◌, Bool, true, false, not, ◌&&◌, ◌||◌, ◌==◌, if◌then◌else◌, nat_le, List, [], ◌∷◌, ◌++◌, length, Option, Some, None, IsTrue}
 use Rattle.std.specs.Char.{encode_utf8}
 use mathlib.Core.Path.{sym, ◌∙◌, ap, subst}
 use native.Mathlib.Omega.{arith}
@@ -7,12 +7,12 @@ use lib.Dec.{eqb-suc-zero}
 use Rattle.std.proofs.lemmas.Bool.{false≢true}
 use Rattle.std.proofs.lemmas.Bool.Decides.{nat_tests}
 use Rattle.qk_ast.specs.Characters.{Characters, same, is_one_of, every, is_small_letter, is_digit, digit_value, number_after, begins_name, continues_name}
-use Rattle.qk_ast.specs.Tokens.{is_word, is_int, reserved_words}
+use Rattle.qk_ast.specs.Tokens.{is_word, is_int}
 use Rattle.qk_ast.specs.Grammar.{Names, Last_name, Last_comma, Next_name}
 use Rattle.qk_ast.specs.Rules.{is_distinct}
 use Rattle.qk_ast.specs.Tree.{names_tree}
 use Rattle.qk_ast.specs.First.{names_of, qwik_names, are_qwik_names, is_short_word}
-use Rattle.qk_ast.proofs.FrontToken.{left, right, if_true, if_false, among}
+use Rattle.qk_ast.proofs.FrontToken.{left, right, if_true, among}
 use Rattle.qk_ast.proofs.OneToken.{a_digit}
 use Rattle.qk_parse.specs.Reader.{bytes, small_number, begins_well}
 use Rattle.qk_parse.proofs.Trees.{short_small}

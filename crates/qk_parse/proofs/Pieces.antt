@@ -5,14 +5,14 @@ use Rattle.std.proofs.lemmas.Bool.{false≢true}
 use Rattle.std.proofs.lemmas.Bool.Decides.{nat_tests}
 use native.Mathlib.Omega.{arith}
 use Rattle.qk_ast.specs.Characters.{Characters, is_one_of, begins_with, every, is_small_letter, number_after, is_front}
-use Rattle.qk_ast.specs.Tokens.{Token, Name, Reserved, Int, Attribute, Punct, Around, Braces, In_tag, Children, reserved_words, is_word, is_code_sign, is_sign, begin_signs, child_signs, is_attribute_name, is_attribute_rest, ends_word}
+use Rattle.qk_ast.specs.Tokens.{Token, Name, Reserved, Int, Attribute, Punct, Around, Braces, In_tag, reserved_words, is_word, is_code_sign, is_sign, begin_signs, child_signs, is_attribute_name, is_attribute_rest, ends_word}
 use Rattle.qk_ast.specs.Spelling.{bump_sign, attributes_tokens}
-use Rattle.qk_ast.specs.First.{First_attribute, Id, On_click, Shape, Selfclosing, Empty, Shown, attributes_of, first_tags, qwik_names, is_short_word, attribute_name}
+use Rattle.qk_ast.specs.First.{First_attribute, Id, On_click, Shape, Empty, Shown, attributes_of, first_tags, qwik_names, is_short_word}
 use Rattle.qk_ast.proofs.FrontToken.{left, right, among}
 use Rattle.qk_parse.specs.declared.first.Signal.{Signal}
 use Rattle.qk_parse.specs.declared.source.Kind.TheVariants.{Code, Tag}
 use Rattle.qk_parse.specs.Input.{continues}
-use Rattle.qk_parse.proofs.Steps.{is_solid, Blanked, blank_front, WordRead, code_ends}
+use Rattle.qk_parse.proofs.Steps.{is_solid, Blanked, blank_front, code_ends}
 use Rattle.qk_parse.proofs.Names.{short_word, every_maps}
 use Rattle.qk_parse.proofs.Trees.{short_small}
 

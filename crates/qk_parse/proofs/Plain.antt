@@ -1,17 +1,16 @@
 -- A text of the first form has only characters of the first 128.
-use Rattle.std.specs.Prelude.{◌≡◌, refl, ℕ, Bool, true, false, not, ◌&&◌, ◌||◌, nat_lt, ◌<◌, List, [], ◌∷◌, ◌++◌, map, Option, Some, None, codes, IsTrue}
+use Rattle.std.specs.Prelude.{◌≡◌, refl, ℕ, Bool, true, false, ◌&&◌, nat_lt, ◌<◌, List, [], ◌∷◌, ◌++◌, map, Option, Some, None, codes, IsTrue}
 use Rattle.std.specs.Str.{encode_utf8_all, all_scalars}
 use lib.Utf8.{scalar}
 use mathlib.Core.Path.{sym, ◌∙◌, ap, subst}
 use native.Mathlib.Omega.{arith}
-use Rattle.std.proofs.lemmas.Bool.{false≢true}
 use Rattle.std.proofs.lemmas.Bool.Decides.{nat_tests}
 use Rattle.std.proofs.lemmas.Str.Ascii.{encode_ascii}
-use Rattle.qk_ast.specs.Characters.{Characters, is_one_of, every, is_small_letter}
-use Rattle.qk_ast.specs.Tokens.{Token, Name, Reserved, Int, Text, Attribute, Punct, Begin, Piece}
+use Rattle.qk_ast.specs.Characters.{Characters, is_one_of, is_small_letter}
+use Rattle.qk_ast.specs.Tokens.{Token, Name, Reserved, Text, Attribute, Punct, Piece}
 use Rattle.qk_ast.specs.Grammar.{Names, Last_name, Last_comma, Next_name}
 use Rattle.qk_ast.specs.Spelling.{names_tokens, bump_sign, attributes_tokens, element_tokens, module_tokens}
-use Rattle.qk_ast.specs.First.{First_text, First_attribute, Id, On_click, Shape, Selfclosing, Empty, Shown, Fits, module_of, attributes_of, element_of, names_of, qwik_names, are_qwik_names, is_short_word, attribute_fits, attributes_fit, first_tags}
+use Rattle.qk_ast.specs.First.{First_text, First_attribute, Id, On_click, Shape, Selfclosing, Empty, Shown, Fits, module_of, attributes_of, element_of, names_of, qwik_names, are_qwik_names, is_short_word, attributes_fit, first_tags}
 use Rattle.qk_ast.proofs.FrontToken.{left, right, among}
 use Rattle.qk_parse.proofs.Standing.{is_ascii, Plain, AllPlain, int_plain, every_then}
 use Rattle.qk_parse.proofs.Trees.{short_small}

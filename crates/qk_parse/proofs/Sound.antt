@@ -3,7 +3,7 @@ use Rattle.std.specs.Prelude.{◌≡◌, Ok, Err, refl, ℕ, zero, suc, Bool, tr
 use mathlib.Core.Path.{sym, ◌∙◌, ap, subst}
 use Rattle.std.proofs.lemmas.Bool.{false≢true}
 use Rattle.std.proofs.lemmas.Bool.Decides.{nat_tests}
-use Rattle.std.proofs.lemmas.List.{append-nil, append_assoc}
+use Rattle.std.proofs.lemmas.List.{append_assoc}
 use native.Mathlib.Omega.{arith}
 use Rattle.qk_ast.specs.declared.Module.{Module}
 use Rattle.qk_ast.specs.declared.Import.{Import}
@@ -13,8 +13,8 @@ use Rattle.qk_ast.specs.declared.Body.TheVariants as b
 use Rattle.qk_ast.specs.declared.Jsx.{Jsx, roll-Jsx}
 use Rattle.qk_ast.specs.declared.Tag.TheVariants as t
 use Rattle.qk_ast.specs.declared.Field.{Field}
-use Rattle.qk_ast.specs.Characters.{Characters, same, is_one_of, begins_with, every, is_small_letter, number_after, has}
-use Rattle.qk_ast.specs.Tokens.{Token, Name, Reserved, Int, Text, Attribute, Punct, Begin, Piece, Around, Braces, In_tag, In_end, Children, reserved_words, is_int, is_word, ends_word, gap_spelling, are_blanks, is_code_sign, is_sign, child_signs, is_attribute_name}
+use Rattle.qk_ast.specs.Characters.{Characters, same, is_one_of, begins_with, is_small_letter, number_after}
+use Rattle.qk_ast.specs.Tokens.{Token, Name, Reserved, Int, Text, Attribute, Punct, Begin, Piece, Around, Braces, In_end, Children, reserved_words, is_int, is_word, ends_word, gap_spelling, are_blanks, is_sign, child_signs, is_attribute_name}
 use Rattle.qk_ast.specs.Grammar.{Element, Statement, Statements, Step, Expression, Names, Last_name, Last_comma, Next_name}
 use Rattle.qk_ast.specs.Rules.{is_distinct}
 use Rattle.qk_ast.specs.Tree.{names_tree}
@@ -24,12 +24,12 @@ use Rattle.qk_ast.proofs.FrontToken.{left, right, same_is, among}
 use Rattle.qk_parse.specs.declared.first.Signal.{Signal}
 use Rattle.qk_parse.specs.declared.source.Kind.TheVariants.{Code, Tag}
 use Rattle.qk_parse.specs.declared.fault.Fault.TheVariants.{Refused}
-use Rattle.qk_parse.specs.Input.{Outcome, Reader, and_then, ◌>>=◌, ◌>>◌, continues, word_of, after_word, pure, refuse, word, expect, expect_here, keyword, sees, finish, after_blanks, is_empty}
+use Rattle.qk_parse.specs.Input.{Outcome, ◌>>=◌, ◌>>◌, continues, word_of, after_word, pure, refuse, expect, expect_here, keyword, sees, finish, after_blanks, is_empty}
 use Rattle.qk_parse.specs.Reader.{bytes, arrow, name, is_new, more, names_from, names, import_line, small_number, begins_well, number_by, number, signal_name, declaration, state, value, id_attribute, bump, click_attribute, attribute_named, attribute, after_second, after_first, attributes, children, tag, element, may_stand, opening, closing, component, module_with, first}
 use Rattle.qk_parse.proofs.Standing.{Stand, ended}
 use Rattle.qk_parse.proofs.Steps.{Good, good, bad, good_then, if_good, Blanked, blanked, stand_by, stand_here, expect_good, expect_here_good, eat_good, EatRead, eat_here_good, EatHere, WordRead, word_good, word_read, word_here_read, keyword_good, code_ends}
-use Rattle.qk_parse.proofs.Names.{fresh, fresh_distinct, names_bytes, Small, small_read, int_read, every_maps}
-use Rattle.qk_parse.proofs.Trees.{shown, field_of, children_of, jsx_of, signal_of, tree_of, short_small, by_attributes}
+use Rattle.qk_parse.proofs.Names.{fresh, fresh_distinct, names_bytes, small_read, int_read, every_maps}
+use Rattle.qk_parse.proofs.Trees.{shown, field_of, children_of, jsx_of, signal_of, tree_of, short_small}
 use Rattle.qk_parse.proofs.Pieces.{Here, In, name_of, is_there, NameFits, name_token, value_tokens, one_attribute, first_attribute, state_tokens, inside, open_shape, initial_small, equals, opens, closes, tag_rest, tag_token}
 
 both : (a b : Bool) → IsTrue a → IsTrue b → IsTrue (a && b)

@@ -1,5 +1,5 @@
 -- The tokens of a text one by one: each with the blanks before it and the text after it.
-use Rattle.std.specs.Prelude.{◌≡◌, refl, ℕ, Bool, true, false, not, ◌&&◌, ◌||◌, ◌==◌, if◌then◌else◌, nat_lt, List, [], ◌∷◌, ◌++◌, length, Option, Some, None, codes, IsTrue}
+use Rattle.std.specs.Prelude.{◌≡◌, refl, ℕ, Bool, true, false, ◌&&◌, ◌||◌, ◌==◌, nat_lt, List, [], ◌∷◌, ◌++◌, length, Option, Some, IsTrue}
 use mathlib.Core.Path.{sym, ◌∙◌, ap, subst}
 use mathlib.Core.Logic.{inl, inr}
 use lib.Dec.{eqb→eq, T, eqb-suc-zero}
@@ -9,7 +9,6 @@ use Rattle.qk_ast.specs.Tokens.{Token, Name, Reserved, Int, Text, Attribute, Tem
 use Rattle.qk_ast.specs.First.{is_only_space, has_no_comment}
 use Rattle.qk_ast.proofs.FrontToken.{left, right, either}
 use Rattle.qk_ast.proofs.OneToken.{a_digit, rest_digits}
-use Rattle.qk_ast.proofs.OneTagToken.{empty_is}
 
 -- a token, after blanks
 pub record Put (around : Around) (before : Option Token) (t : Token) (i j : Characters) : Type 0 where

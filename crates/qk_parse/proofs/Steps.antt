@@ -1,5 +1,5 @@
 -- The steps of the reader, each in both directions: what they read stands there, and what stands there is read.
-use Rattle.std.specs.Prelude.{◌≡◌, refl, ℕ, Bool, true, false, not, ◌&&◌, ◌||◌, ◌==◌, if◌then◌else◌, nat_lt, nat_le, List, [], ◌∷◌, ◌++◌, length, drop, Option, Some, None, Result, Ok, Err, codes, IsTrue}
+use Rattle.std.specs.Prelude.{◌≡◌, refl, ℕ, Bool, true, false, not, ◌&&◌, ◌||◌, ◌==◌, if◌then◌else◌, nat_lt, nat_le, List, [], ◌∷◌, ◌++◌, length, drop, Option, Some, Ok, Err, IsTrue}
 use mathlib.Core.Path.{sym, ◌∙◌, ap, subst}
 use native.Mathlib.Omega.{arith}
 use lib.Dec.{eqb-suc-zero}
@@ -11,11 +11,11 @@ use Rattle.qk_ast.specs.Tokens.{Token, Blank, Space, Line, Block, Around, Childr
 use Rattle.qk_ast.specs.First.{is_only_space}
 use Rattle.qk_ast.proofs.FrontToken.{left, right, if_true, if_false, same_is}
 use Rattle.qk_parse.specs.declared.source.Kind.{Kind}
-use Rattle.qk_parse.specs.declared.source.Kind.TheVariants.{Code, Tag}
+use Rattle.qk_parse.specs.declared.source.Kind.TheVariants.{Code}
 use Rattle.qk_parse.specs.declared.fault.Fault.{Fault}
-use Rattle.qk_parse.specs.Input.{Outcome, Reader, and_then, pure, refuse, continues, after_blanks, word_of, after_word, word, word_here, past, sees, expect, expect_here, keyword, eat, eat_here, finish, is_empty}
+use Rattle.qk_parse.specs.Input.{Outcome, Reader, and_then, pure, refuse, continues, after_blanks, word_of, after_word, word, word_here, sees, expect, expect_here, keyword, eat, eat_here}
 use Rattle.qk_parse.specs.Input.{after as after_sign}
-use Rattle.qk_parse.proofs.Standing.{Put, Ends, Stand, next, ended, First, first_token, last_gap, blank_by, gap_blanks, is_ascii, every_last, gap_last}
+use Rattle.qk_parse.proofs.Standing.{Put, Stand, next, first_token, blank_by, gap_blanks, is_ascii, every_last, gap_last}
 
 -- ---- what an outcome says
 

@@ -1,15 +1,13 @@
 -- What the reader makes of a text of the first form is the tree that the grammar gives it.
-use Rattle.std.specs.Prelude.{◌≡◌, refl, ℕ, Bool, true, false, not, ◌&&◌, ◌||◌, ◌==◌, if◌then◌else◌, nat_lt, nat_le, List, [], ◌∷◌, ◌++◌, length, map, Option, Some, None, codes, IsTrue}
-use Rattle.std.specs.Str.{encode_utf8_all}
+use Rattle.std.specs.Prelude.{◌≡◌, refl, ℕ, Bool, true, false, not, ◌&&◌, ◌==◌, nat_lt, List, [], ◌∷◌, length, map, Option, Some, None, codes, IsTrue}
 use Rattle.std.specs.Char.{encode_utf8}
-use mathlib.Core.Path.{sym, ◌∙◌, ap, subst}
+use mathlib.Core.Path.{sym, ◌∙◌, ap}
 use native.Mathlib.Omega.{arith}
 use Rattle.std.proofs.lemmas.Bool.{false≢true}
 use Rattle.std.proofs.lemmas.Bool.Decides.{nat_tests}
 use Rattle.qk_ast.specs.declared.Module.{Module}
 use Rattle.qk_ast.specs.declared.Expr.{Expr}
 use Rattle.qk_ast.specs.declared.Expr.TheVariants as e
-use Rattle.qk_ast.specs.declared.Stmt.{Stmt}
 use Rattle.qk_ast.specs.declared.Link.TheVariants as l
 use Rattle.qk_ast.specs.declared.Body.TheVariants as b
 use Rattle.qk_ast.specs.declared.Tag.{Tag}
@@ -20,8 +18,8 @@ use Rattle.qk_ast.specs.Characters.{Characters, is_one_of, every, begins_with, i
 use Rattle.qk_ast.specs.JsxText.{decoded, decoded_after}
 use Rattle.qk_ast.specs.Grammar.{Element, Statement, Statements, Step, Expression}
 use Rattle.qk_ast.specs.Rules.{is_distinct}
-use Rattle.qk_ast.specs.Tree.{names_tree, tag_tree, attributes_tree, element_tree, statements_tree, module_tree}
-use Rattle.qk_ast.specs.First.{First_text, First_attribute, Id, On_click, Shape, Selfclosing, Empty, Shown, Fits, module_of, attributes_of, element_of, block_of, first_tags, attribute_name, attribute_fits, attributes_fit, is_short_word}
+use Rattle.qk_ast.specs.Tree.{names_tree, attributes_tree, element_tree, statements_tree, module_tree}
+use Rattle.qk_ast.specs.First.{First_text, First_attribute, Id, On_click, Shape, Selfclosing, Empty, Shown, Fits, module_of, attributes_of, element_of, block_of, first_tags, attribute_name, attributes_fit, is_short_word}
 use Rattle.qk_ast.proofs.FrontToken.{left, right, if_true, if_false, among}
 use Rattle.qk_parse.specs.declared.first.Signal.{Signal}
 use Rattle.qk_parse.specs.Reader.{bytes, arrow, statements, component, module_with}

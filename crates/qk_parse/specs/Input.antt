@@ -1,5 +1,5 @@
 -- The steps that every rule of the reader is made of. Used by contracts inside the crate alone: the public one cites the grammar.
-use Rattle.std.specs.Prelude.{◌≡◌, ◌≢◌, ℕ, Bool, true, false, ◌||◌, if◌then◌else◌, ◌==◌, nat_le, List, [], ◌∷◌, length, drop, Result, Ok, Err}
+use Rattle.std.specs.Prelude.{◌≡◌, ◌≢◌, ℕ, Bool, true, false, ◌||◌, if◌then◌else◌, ◌==◌, nat_le, [], ◌∷◌, length, drop, Result, Ok, Err}
 use Rattle.qk_ast.specs.Characters.{Characters, same, is_front, is_letter, is_digit, is_blank}
 use Rattle.qk_parse.specs.declared.source.Kind.{Kind}
 use Rattle.qk_parse.specs.declared.source.Kind.TheVariants.{Code, Tag}

@@ -1,5 +1,5 @@
 -- The reader of the first form: one function for each rule.
-use Rattle.std.specs.Prelude.{ℕ, zero, suc, ◌+◌, ◌*◌, Bool, true, false, not, ◌&&◌, ◌||◌, if◌then◌else◌, nat_le, List, [], ◌∷◌, ◌++◌, length, map, Option, Some, None, Result, Ok, Err, pos, codes}
+use Rattle.std.specs.Prelude.{ℕ, zero, suc, ◌+◌, ◌*◌, Bool, true, false, not, ◌&&◌, ◌||◌, if◌then◌else◌, nat_le, List, [], ◌∷◌, ◌++◌, length, map, Option, Some, None, pos, codes}
 use Rattle.std.specs.Str.{encode_utf8_all}
 use Rattle.qk_ast.specs.declared.Module.{Module}
 use Rattle.qk_ast.specs.declared.Import.{Import}
@@ -18,9 +18,8 @@ use Rattle.qk_ast.specs.Characters.{Characters, same, is_one_of, is_digit, digit
 use Rattle.qk_ast.specs.Tokens.{reserved_words}
 use Rattle.qk_ast.specs.First.{qwik_names, is_short_word, first_tags}
 use Rattle.qk_parse.specs.declared.source.Kind.TheVariants.{Code, Tag}
-use Rattle.qk_parse.specs.declared.fault.Fault.TheVariants.{Refused}
 use Rattle.qk_parse.specs.declared.first.Signal.{Signal}
-use Rattle.qk_parse.specs.Input.{Outcome, Reader, ◌>>=◌, ◌>>◌, pure, refuse, word, word_here, eat, eat_here, look, expect, expect_here, keyword, finish, is_empty}
+use Rattle.qk_parse.specs.Input.{Reader, ◌>>=◌, ◌>>◌, pure, refuse, word, word_here, eat, eat_here, look, expect, expect_here, keyword, finish}
 
 abbrev pub bytes : Characters → List ℕ
 bytes = encode_utf8_all
@@ -95,10 +94,13 @@ number = do
   digits ← word Code
   if begins_well digits then number_by (small_number 0 digits) else refuse
 
+abbrev pub is_signal_name : Characters → Bool
+is_signal_name name = is_short_word name && not (is_one_of name reserved_words) && not (is_one_of name (map codes ("console" ∷ "qrl" ∷ [])))
+
 unfoldable pub signal_name : Reader Characters
 signal_name = do
-  name ← word Code
-  if is_short_word name && not (is_one_of name reserved_words) && not (is_one_of name (map codes ("console" ∷ "qrl" ∷ []))) then pure name else refuse
+  it ← word Code
+  if is_signal_name it then pure it else refuse
 
 unfoldable pub declaration : Reader Signal
 declaration = do

@@ -1,150 +1,23 @@
 //! The reader of the first form: a function for each rule.
 
-ghost use Rattle.std.specs.Prelude.{◌≡◌, map, codes, OkIff, IfOk};
+ghost use Rattle.std.specs.Prelude.{◌≡◌, IfOk};
 ghost use Rattle.qk_ast.specs.Characters as chars;
-ghost use Rattle.qk_ast.specs.First as form;
-ghost use Rattle.qk_ast.specs.Tokens.{reserved_words};
 ghost use Rattle.qk_parse.specs.Input.{Reads};
 ghost use Rattle.qk_parse.specs.Reader as spec;
 
 use crate::fault::Fault;
-use crate::source::{Kind, Source, Word, is_digit, is_same};
+use crate::source::{Kind, Source, Word, is_same};
 use crate::tree::{arrow, called, empty, one, text, two};
+use crate::words::{begins_well, has, is_new, is_short_word, is_signal_name, is_tag, small_number};
 use qk_ast::{Body, Expr, Field, Import, Item, Jsx, Link, Module, Pattern, Stmt, Tag};
 use qk_shared::{Builder, List, Shared, Text};
 use std::alloc::{AllocError, Global};
 
-/// The names that the framework exports.
-const QWIK_NAMES: [&str; 11] = [
-    "$",
-    "Slot",
-    "component$",
-    "createContextId",
-    "noSerialize",
-    "useComputed$",
-    "useContext",
-    "useContextProvider",
-    "useSignal",
-    "useStore",
-    "useTask$",
-];
-
-/// The words that are no names.
-const RESERVED_WORDS: [&str; 49] = [
-    "arguments",
-    "await",
-    "break",
-    "case",
-    "catch",
-    "class",
-    "const",
-    "continue",
-    "debugger",
-    "default",
-    "delete",
-    "do",
-    "else",
-    "enum",
-    "eval",
-    "export",
-    "extends",
-    "false",
-    "finally",
-    "for",
-    "function",
-    "if",
-    "implements",
-    "import",
-    "in",
-    "instanceof",
-    "interface",
-    "let",
-    "new",
-    "null",
-    "package",
-    "private",
-    "protected",
-    "public",
-    "return",
-    "static",
-    "super",
-    "switch",
-    "this",
-    "throw",
-    "true",
-    "try",
-    "typeof",
-    "undefined",
-    "var",
-    "void",
-    "while",
-    "with",
-    "yield",
-];
-
-/// The tags of the first form.
-const TAGS: [&str; 3] = ["button", "div", "p"];
-
-const KNOWN_NAMES: [&str; 2] = ["console", "qrl"];
-
-/// The signal of a component: its name and its first value.
+/// The signal of a component: its name and its first value, at most a million.
 #[derive(Drop)]
 pub struct Signal<'a> {
     pub name: Word<'a>,
     pub initial: u32,
-}
-
-fn is_one_of(word: &[u8], words: &[&str]) -> bool
-    ensures { result ≡ chars.is_one_of word.now (map (λ w. w.now) words.now) }
-{
-    for other in words {
-        if is_same(word, other.as_bytes()) {
-            return true;
-        }
-    }
-    false
-}
-
-fn has(words: &[Text], word: &[u8]) -> bool
-    ensures { result ≡ chars.is_one_of word.now words.now }
-{
-    for other in words {
-        if is_same(word, other.as_str().as_bytes()) {
-            return true;
-        }
-    }
-    false
-}
-
-fn is_small(word: &[u8]) -> bool
-    ensures { result ≡ chars.every chars.is_small_letter word.now }
-{
-    for byte in word {
-        if !(b'a' <= *byte && *byte <= b'z') {
-            return false;
-        }
-    }
-    true
-}
-
-/// Whether it is 1 to 8 letters a to z.
-fn is_short_word(word: &[u8]) -> bool
-    ensures { result ≡ form.is_short_word word.now }
-{
-    is_small(word) && 0 < word.len() && word.len() <= 8
-}
-
-fn is_qwik_name(word: &[u8]) -> bool
-    ensures { result ≡ chars.is_one_of word.now form.qwik_names }
-{
-    is_one_of(word, &QWIK_NAMES)
-}
-
-/// Whether it is one of the framework's names and none of those.
-fn is_new(word: &[u8], found: &[Text]) -> bool
-    ensures { result ≡ spec.is_new word.now found.now }
-{
-    is_qwik_name(word) && !has(found, word)
 }
 
 /// A name of the framework that wasn't found yet.
@@ -177,6 +50,7 @@ fn names(alloc: Global, source: &mut Source<'_>) -> Result<List<Text>, Fault>
     ensures { Reads (spec.names source.old) result source.new }
 {
     let mut found = Builder::new(alloc);
+    // each turn takes a byte at least
     for _turn in 0..source.left() {
         let name = name(alloc, source, found.as_slice())?;
         found.push(name)?;
@@ -204,36 +78,6 @@ fn import_line(alloc: Global, source: &mut Source<'_>) -> Result<Import, Fault>
     Ok(Import { names, from })
 }
 
-/// The number that the digits write, at most a million.
-#[tactic(auto, unfolding(crate::specs::Reader::small_number))]
-fn small_number(mut digits: &[u8]) -> Option<u32>
-    ensures { result ≡ spec.small_number 0 digits.entry.now }
-{
-    let mut number: u32 = 0;
-    while let [digit, rest @ ..] = digits {
-        if !is_digit(*digit) {
-            return None;
-        }
-        number = number * 10 + u32::from(*digit - b'0');
-        if 1_000_000 < number {
-            return None;
-        }
-        digits = rest;
-    }
-    Some(number)
-}
-
-/// Whether there are digits, without a zero before others.
-fn begins_well(digits: &[u8]) -> bool
-    ensures { result ≡ spec.begins_well digits.now }
-{
-    match digits {
-        [] => false,
-        [_] => true,
-        [first, _, ..] => b'0' < *first,
-    }
-}
-
 #[tactic(auto, unfolding(crate::specs::Reader::number))]
 fn number(source: &mut Source<'_>) -> Result<u32, Fault>
     ensures { Reads (spec.number source.old) result source.new }
@@ -253,8 +97,7 @@ fn signal_name<'a>(source: &mut Source<'a>) -> Result<Word<'a>, Fault>
     ensures { Reads (spec.signal_name source.old) result source.new }
 {
     let name = source.word(Kind::Code);
-    let word = name.as_bytes();
-    if is_short_word(word) && !is_one_of(word, &RESERVED_WORDS) && !is_one_of(word, &KNOWN_NAMES) {
+    if is_signal_name(name.as_bytes()) {
         Ok(name)
     } else {
         Err(Fault::Refused)
@@ -384,6 +227,13 @@ fn attribute(
     Err(Fault::Refused)
 }
 
+fn have_one_name(field: &Field, other: &Field) -> bool
+    ensures { result ≡ chars.same field.now.key other.now.key }
+{
+    is_same(field.key.as_str().as_bytes(), other.key.as_str().as_bytes())
+}
+
+/// The attributes of a tag, at most two, since no name stands twice.
 #[tactic(auto, unfolding(crate::specs::Reader::attributes))]
 fn attributes(
     alloc: Global,
@@ -398,10 +248,7 @@ fn attributes(
     let Some(second) = attribute(alloc, source, signal)? else {
         return Ok(one(alloc, first)?);
     };
-    if is_same(
-        second.key.as_str().as_bytes(),
-        first.key.as_str().as_bytes(),
-    ) {
+    if have_one_name(&second, &first) {
         return Err(Fault::Refused);
     }
     Ok(two(alloc, first, second)?)
@@ -431,7 +278,7 @@ fn tag<'a>(source: &mut Source<'a>) -> Result<Word<'a>, Fault>
     ensures { Reads (spec.tag source.old) result source.new }
 {
     let found = source.word(Kind::Tag);
-    if is_one_of(found.as_bytes(), &TAGS) {
+    if is_tag(found.as_bytes()) {
         Ok(found)
     } else {
         Err(Fault::Refused)

@@ -10,6 +10,7 @@ mod source;
 #[cfg(test)]
 mod tests;
 mod tree;
+mod words;
 
 use fault::Fault;
 pub use fault::ParseFault;

@@ -126,7 +126,7 @@ impl<'a> Source<'a> {
     }
 
     /// Takes the word that stands at once, maybe an empty one.
-    #[tactic(auto, using(crate::proofs::Words::take_word, crate::proofs::Words::drop_word, crate::proofs::Words::word_fits))]
+    #[tactic(auto, using(crate::proofs::Slices::take_word, crate::proofs::Slices::drop_word, crate::proofs::Slices::word_fits))]
     pub fn word_here(&mut self, kind: Kind) -> Word<'a>
         ensures found { result ≡ spec.word_of kind self.old }
         ensures after { self.new ≡ spec.after_word kind self.old }
@@ -146,7 +146,7 @@ impl<'a> Source<'a> {
     }
 
     /// Takes the sign where it stands at once.
-    #[tactic(auto, using(crate::proofs::Words::front_is))]
+    #[tactic(auto, using(crate::proofs::Slices::front_is))]
     pub fn eat_here(&mut self, sign: &[u8]) -> bool
         ensures found { result ≡ chars.is_front sign.now self.old }
         ensures after { self.new ≡ (if chars.is_front sign.now self.old then spec.past sign.now self.old else self.old) }
@@ -161,7 +161,7 @@ impl<'a> Source<'a> {
     }
 
     /// Whether the sign stands there, after blanks.
-    #[tactic(auto, using(crate::proofs::Words::starts_is), unfolding(crate::specs::Input::sees))]
+    #[tactic(auto, using(crate::proofs::Slices::starts_is), unfolding(crate::specs::Input::sees))]
     pub fn sees(&self, sign: &[u8]) -> bool
         ensures { result ≡ spec.sees sign.now self.now }
     {
@@ -169,7 +169,7 @@ impl<'a> Source<'a> {
     }
 
     /// Takes the blanks and the sign, where it stands there.
-    #[tactic(auto, using(crate::proofs::Words::front_is), unfolding(crate::specs::Input::sees, crate::specs::Input::after))]
+    #[tactic(auto, using(crate::proofs::Slices::front_is), unfolding(crate::specs::Input::sees, crate::specs::Input::after))]
     pub fn eat(&mut self, sign: &[u8]) -> bool
         ensures found { result ≡ spec.sees sign.now self.old }
         ensures after { self.new ≡ (if spec.sees sign.now self.old then spec.after sign.now self.old else self.old) }

@@ -9,7 +9,7 @@ use qk_shared::{List, Shared, Text};
 use std::alloc::{AllocError, Global};
 
 /// The text of these characters, each of which is its byte's number.
-#[tactic(auto, using(crate::proofs::Words::text_more))]
+#[tactic(auto, using(crate::proofs::Slices::text_more))]
 pub fn text(alloc: Global, characters: &[u8]) -> Result<Text, AllocError>
     ensures { IfOk result (λ t. t ≡ encode_utf8_all characters.now) }
 {

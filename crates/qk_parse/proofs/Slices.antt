@@ -1,5 +1,5 @@
 -- The code's steps on a slice, as steps on the list of its characters.
-use Rattle.std.proofs.Common.{append-nil, ◌≡◌, refl, sym, ◌∙◌, ap, ℕ, zero, suc, ◌+◌, ◌≤◌, Bool, true, false, ◌&&◌, if◌then◌else◌, List, [], ◌∷◌, ◌++◌, length, take, drop, get_or, ◌<◌, nat_eq, bytes_eq, arith, encode_utf8, encode_utf8_all}
+use Rattle.std.proofs.Common.{append-nil, ◌≡◌, refl, ◌∙◌, ap, ℕ, ◌+◌, ◌≤◌, Bool, true, false, ◌&&◌, if◌then◌else◌, [], ◌∷◌, ◌++◌, length, take, drop, get_or, ◌<◌, nat_eq, bytes_eq, arith, encode_utf8, encode_utf8_all}
 use Rattle.std.proofs.lemmas.Bool.Decides.{nat_tests}
 use Rattle.std.proofs.lemmas.List.{take_more}
 use Rattle.std.proofs.lemmas.Str.{encodes-append}

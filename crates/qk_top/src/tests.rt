@@ -1,0 +1,162 @@
+use crate::run;
+use qk_store::{MemSink, MemStore, Sink, Store};
+use std::alloc::{AllocError, Global};
+use std::process::Abort;
+use std::test::Fail;
+
+/// The import of every name of the framework.
+const ALL_NAMES: &str =
+    "import { $, Slot, component$, createContextId, noSerialize, useComputed$, useContext, useContextProvider, useSignal, useStore, useTask$ } from \"@builder.io/qwik\";\n";
+
+const COUNTER: &str =
+    "export const App = component$(() => { const n = useSignal(0); return <button id=\"b\" onClick$={() => n.value++}>{n.value}</button>; });";
+
+/// A worked example: the files `root.jsx` (behind the import of every name) and `s.txt`, what `replay s.txt` prints, and its status.
+struct Row {
+    what: &'static str,
+    root: &'static str,
+    script: &'static str,
+    prints: &'static str,
+    status: u8,
+}
+
+const ROWS: [Row; 6] = [
+    Row {
+        what: "a counter that is clicked three times",
+        root: COUNTER,
+        script: "click b\nclick b\nclick b",
+        prints: "item 0\nhtml <button id=\"b\">0</button>\nitem 1\nhtml <button id=\"b\">1</button>\nitem 2\nhtml <button id=\"b\">2</button>\nitem 3\nhtml <button id=\"b\">3</button>\n",
+        status: 0,
+    },
+    Row {
+        what: "a counter and an empty script",
+        root: COUNTER,
+        script: "",
+        prints: "item 0\nhtml <button id=\"b\">0</button>\n",
+        status: 0,
+    },
+    Row {
+        what: "an element without anything",
+        root: "export const App = component$(() => { return <p/>; });",
+        script: "",
+        prints: "item 0\nhtml <p></p>\n",
+        status: 0,
+    },
+    Row {
+        what: "nothing hears a click at another id, and a click down goes below zero",
+        root: "export const App = component$(() => { const n = useSignal(0); return <p onClick$={() => n.value--} id=\"a\">{n.value}</p>; });",
+        script: "click q\nclick a\n",
+        prints: "item 0\nhtml <p id=\"a\">0</p>\nitem 1\nnone\nhtml <p id=\"a\">0</p>\nitem 2\nhtml <p id=\"a\">-1</p>\n",
+        status: 0,
+    },
+    Row {
+        what: "a script with a pause",
+        root: COUNTER,
+        script: "pause",
+        prints: "refused NotBuilt\n",
+        status: 5,
+    },
+    Row {
+        what: "a component whose arrow is an expression",
+        root: "export const App = component$(() => <p id=\"p\">hi</p>);",
+        script: "click q\nclick p",
+        prints: "refused NotBuilt root -\n",
+        status: 2,
+    },
+];
+
+fn file(alloc: Global, name: &str, parts: &[&str]) -> Result<(String, Vec<u8>), AllocError> {
+    let mut bytes = Vec::new(alloc);
+    for part in parts {
+        bytes.extend_from_slice(part.as_bytes())?;
+    }
+    Ok((String::from_str(alloc, name)?, bytes))
+}
+
+fn files(alloc: Global, root: &str, script: &str) -> Result<Vec<(String, Vec<u8>)>, AllocError> {
+    let mut files = Vec::new(alloc);
+    files.push(file(alloc, "root.jsx", &[ALL_NAMES, root])?)?;
+    files.push(file(alloc, "s.txt", &[script])?)?;
+    Ok(files)
+}
+
+fn words(alloc: Global, all: &[&str]) -> Result<Vec<String>, AllocError> {
+    let mut words = Vec::new(alloc);
+    for word in all {
+        words.push(String::from_str(alloc, word)?)?;
+    }
+    Ok(words)
+}
+
+/// `replay s.txt`, through the bounds of the traits.
+fn replay<S: Store, K: Sink>(alloc: Global, store: &mut S, out: &mut K) -> Result<u8, AllocError> {
+    let words = words(alloc, &["replay", "s.txt"])?;
+    Ok(run(alloc, words.as_slice(), store, out))
+}
+
+fn shows(rt: &impl Abort, alloc: Global, row: &Row) -> Result<(), Fail> {
+    let mut store = MemStore::new(alloc, files(alloc, row.root, row.script)?, Vec::new(alloc));
+    let mut out = MemSink::new(alloc, Vec::new(alloc));
+    let status = replay(alloc, &mut store, &mut out)?;
+    assert_eq!(rt; out.bytes(), row.prints.as_bytes(), "{}", row.what);
+    assert_eq!(rt; status, row.status, "{}", row.what);
+    Ok(())
+}
+
+#[test]
+fn the_worked_examples_print_what_they_must(rt: HostRuntime) -> Result<(), Fail> {
+    for row in &ROWS {
+        shows(&rt, rt.alloc(), row)?;
+    }
+    Ok(())
+}
+
+#[test]
+fn no_words_are_no_command(rt: HostRuntime) -> Result<(), Fail> {
+    let alloc = rt.alloc();
+    let mut store = MemStore::new(alloc, Vec::new(alloc), Vec::new(alloc));
+    let mut out = MemSink::new(alloc, Vec::new(alloc));
+    let none: [String; 0] = [];
+    assert_eq!(rt; run(alloc, &none, &mut store, &mut out), 1);
+    assert_eq!(rt; out.bytes(), b"usage\n".as_slice());
+    Ok(())
+}
+
+#[test]
+fn a_missing_script_is_told_before_a_missing_application(rt: HostRuntime) -> Result<(), Fail> {
+    let alloc = rt.alloc();
+    let mut store = MemStore::new(alloc, Vec::new(alloc), Vec::new(alloc));
+    let mut out = MemSink::new(alloc, Vec::new(alloc));
+    assert_eq!(rt; replay(alloc, &mut store, &mut out)?, 5);
+    assert_eq!(rt; out.bytes(), b"refused ScriptMissing\n".as_slice());
+    Ok(())
+}
+
+#[test]
+fn a_put_that_fails_leaves_half_a_block(rt: HostRuntime) -> Result<(), Fail> {
+    let alloc = rt.alloc();
+    let mut store = MemStore::new(
+        alloc,
+        files(alloc, COUNTER, "click b\nclick b\nclick b")?,
+        Vec::new(alloc),
+    );
+    let mut failing = Vec::new(alloc);
+    failing.push(2)?;
+    let mut out = MemSink::new(alloc, failing);
+    assert_eq!(rt; replay(alloc, &mut store, &mut out)?, 7);
+    let printed = "item 0\nhtml <button id=\"b\">0</button>\nitem 1\nhtml <button";
+    assert_eq!(rt; out.bytes(), printed.as_bytes());
+    Ok(())
+}
+
+#[test]
+fn a_read_that_fails_is_told(rt: HostRuntime) -> Result<(), Fail> {
+    let alloc = rt.alloc();
+    let mut failing = Vec::new(alloc);
+    failing.push(2)?;
+    let mut store = MemStore::new(alloc, files(alloc, COUNTER, "click b")?, failing);
+    let mut out = MemSink::new(alloc, Vec::new(alloc));
+    assert_eq!(rt; replay(alloc, &mut store, &mut out)?, 6);
+    assert_eq!(rt; out.bytes(), b"store failed\n".as_slice());
+    Ok(())
+}
