@@ -1,0 +1,4 @@
+pub mod Cuts
+pub mod LineTexts
+pub mod Events
+pub mod Items

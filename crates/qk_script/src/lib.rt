@@ -1,0 +1,14 @@
+//! Scripts: the events that are played, and the pauses between them.
+#![tactic(auto)]
+
+mod fault;
+mod item;
+mod lines;
+mod script;
+
+pub use fault::ScriptFault;
+pub use item::{Event, ScriptItem};
+pub use script::parse_script;
+
+#[cfg(test)]
+mod tests;
