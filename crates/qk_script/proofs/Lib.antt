@@ -2,3 +2,4 @@ pub mod Cuts
 pub mod LineTexts
 pub mod Events
 pub mod Items
+pub mod OneItems

@@ -64,3 +64,7 @@ pub data AreItems : List Text → List Line → Type 0 where
 -- the text spells these items
 abbrev pub TextSpells : Text → List Line → Type 0
 TextSpells text items = AreItems (lines_of text) items
+
+-- A text spells one list of items.
+abbrev pub OneScript : Type 0
+OneScript = (text : Text) (items others : List Line) → TextSpells text items → TextSpells text others → items ≡ others
