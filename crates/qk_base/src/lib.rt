@@ -1,0 +1,10 @@
+//! The budget that code runs on: turns, and levels of depth.
+#![tactic(auto)]
+
+pub mod limits;
+mod meter;
+
+pub use meter::{Budget, Meter};
+
+#[cfg(test)]
+mod tests;
