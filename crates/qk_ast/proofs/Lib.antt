@@ -2,8 +2,8 @@ pub mod Examples
 pub mod FirstDerives
 mod Fragment
 mod Refused
-mod FrontToken
-mod Pieces
-mod OneToken
-mod OneTagToken
+pub mod FrontToken
+pub mod Pieces
+pub mod OneToken
+pub mod OneTagToken
 pub mod OneTokenList

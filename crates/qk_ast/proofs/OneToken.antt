@@ -5,9 +5,9 @@ use mathlib.Core.Logic.{inl, inr}
 use native.Mathlib.Omega.{arith}
 use lib.Dec.{eqb→eq, leb→le, T}
 use Rattle.std.proofs.lemmas.Bool.{false≢true, eq-eqb}
-use Rattle.qk_ast.specs.Characters.{Characters, same, is_one_of, has, every, begins_with, is_front, is_digit, begins_name, continues_name}
+use Rattle.qk_ast.specs.Characters.{Characters, same, is_one_of, has, every, begins_with, is_front, is_digit, begins_name, continues_name, run, after_run}
 use Rattle.qk_ast.specs.Tokens.{Token, Name, Reserved, Int, Text, Attribute, Template, Punct, Begin, JsxText, Backquote, Hole, Piece, Around, in_hole, spelling, reserved_words, code_signs, begin_signs, is_sign, is_code_sign, is_word, is_int, ends_word, allows_jsx, is_code_token, are_text_pieces}
-use Rattle.qk_ast.proofs.FrontToken.{left, right, either, is_not, if_true, if_false, run, after_run, run_found, after_found, one_word, one_sign, among}
+use Rattle.qk_ast.proofs.FrontToken.{left, right, either, is_not, if_true, if_false, run_found, after_found, one_word, one_sign, among}
 use Rattle.qk_ast.proofs.Pieces.{heads, tails, text_pieces_one, template_one}
 
 pub data Front : Type 0 where

@@ -7,14 +7,14 @@
 mod gap;
 mod jsx;
 mod quoted;
+mod reading;
 mod regions;
 mod scan;
 mod step;
 mod tables;
-mod tokens;
 
 pub use jsx::jsx_text;
-pub use tokens::tokens;
+pub use reading::tokens;
 
 #[cfg(test)]
 mod tests;
