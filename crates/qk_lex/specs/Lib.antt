@@ -1,0 +1,3 @@
+pub mod Scan
+pub mod Gaps
+pub mod Quotes

@@ -1,4 +1,9 @@
 // Texts in quotes, and templates.
+ghost use Rattle.std.specs.Prelude.{◌≡◌, ◌<◌, ◌≤◌, ◌==◌, true, false, length, chars, codes, IfSome, MatchOption};
+ghost use Rattle.std.specs.Option.{option_map};
+ghost use lib.Utf8.{scalar};
+ghost use Rattle.qk_ast.specs.Characters.{has, is_hex_digit, digit_value};
+ghost use Rattle.qk_lex.specs.Quotes.{with_digit, after_braced, after_digits, after_escape, Closes, Ends, edge_of, after_template_piece};
 
 use crate::scan::{after_char, split_first};
 
@@ -6,12 +11,16 @@ use crate::scan::{after_char, split_first};
 const PAST_CHARACTERS: u32 = 0x11_0000;
 
 /// Whether a character has the number. A surrogate is none.
-fn is_scalar(number: u32) -> bool {
+fn is_scalar(number: u32) -> bool
+    ensures { result ≡ scalar number }
+{
     number < 0xd800 || (0xe000 <= number && number < PAST_CHARACTERS)
 }
 
 /// The value of a hexadecimal digit.
-fn hex_value(c: char) -> Option<u32> {
+fn hex_value(c: char) -> Option<u32>
+    ensures { MatchOption result (is_hex_digit c ≡ false) (λ v. (is_hex_digit c ≡ true) × (v ≡ digit_value c) × (v < 16)) }
+{
     match c {
         '0'..='9' => Some(c as u32 - 48),
         'a'..='f' => Some(c as u32 - 87),
@@ -20,8 +29,19 @@ fn hex_value(c: char) -> Option<u32> {
     }
 }
 
+/// The number that goes on with one more hexadecimal digit. Past the characters' numbers it stays past them.
+fn with_digit(number: u32, value: u32) -> u32
+    requires { value < 16 }
+    ensures { result ≡ with_digit number value }
+{
+    number.min(PAST_CHARACTERS) * 16 + value
+}
+
 /// What follows the digits of `\u{..}` and the brace after them.
-fn after_braced(text: &str) -> Option<&str> {
+fn after_braced(text: &str) -> Option<&str>
+    ensures value { option_map (λ r. chars r.now) result ≡ after_braced 0 false (chars text.now) }
+    ensures shorter { IfSome result (λ r. length r.now ≤ length text.now) }
+{
     let mut rest = text;
     let mut number = 0;
     let mut some = false;
@@ -34,7 +54,7 @@ fn after_braced(text: &str) -> Option<&str> {
                     None
                 };
             }
-            Some(value) => number = number.min(PAST_CHARACTERS) * 16 + value,
+            Some(value) => number = with_digit(number, value),
         }
         some = true;
         rest = more;
@@ -43,29 +63,37 @@ fn after_braced(text: &str) -> Option<&str> {
 }
 
 /// What follows the four digits of `\uHHHH`.
-fn after_four(text: &str) -> Option<&str> {
+fn after_four(text: &str) -> Option<&str>
+    ensures value { option_map (λ r. chars r.now) result ≡ after_digits 4 0 (chars text.now) }
+    ensures shorter { IfSome result (λ r. length r.now ≤ length text.now) }
+{
     let mut rest = text;
     let mut number = 0;
-    for _ in 0..4 {
+    for _ in 0..4u32 {
         let Some((c, more)) = split_first(rest) else {
             return None;
         };
         let Some(value) = hex_value(c) else {
             return None;
         };
-        number = number.min(PAST_CHARACTERS) * 16 + value;
+        number = with_digit(number, value);
         rest = more;
     }
     if is_scalar(number) { Some(rest) } else { None }
 }
 
 /// Whether a backslash before it makes an escape of two characters.
-fn is_escaped(c: char) -> bool {
+fn is_escaped(c: char) -> bool
+    ensures { result ≡ has c (codes "nrt\\'\"`$") }
+{
     c == 'n' || c == 'r' || c == 't' || c == '\\' || c == '\'' || c == '"' || c == '`' || c == '$'
 }
 
 /// What follows the escape that the text begins with, after its backslash.
-fn after_escape(text: &str) -> Option<&str> {
+fn after_escape(text: &str) -> Option<&str>
+    ensures value { option_map (λ r. chars r.now) result ≡ after_escape (chars text.now) }
+    ensures shorter { IfSome result (λ r. length r.now ≤ length text.now) }
+{
     match split_first(text) {
         None => None,
         Some((c, rest)) => {
@@ -84,7 +112,11 @@ fn after_escape(text: &str) -> Option<&str> {
 }
 
 /// What follows the quote that closes a text.
-pub(crate) fn after_text(quote: char, text: &str) -> Option<&str> {
+pub(crate) fn after_text(quote: char, text: &str) -> Option<&str>
+    requires { (quote == 92) ≡ false }
+    ensures value { Closes quote (chars text.now) (option_map (λ r. chars r.now) result) }
+    ensures shorter { IfSome result (λ r. length r.now ≤ length text.now) }
+{
     let mut rest = text;
     while let Some((c, more)) = split_first(rest) {
         if c == quote {
@@ -112,8 +144,28 @@ pub(crate) enum Edge {
     Hole,
 }
 
+/// What follows a piece of a template, of which `c` is the first character. A carriage return takes the line feed after it.
+fn after_template_piece(c: char, more: &str) -> Option<&str>
+    ensures value { option_map (λ r. chars r.now) result ≡ after_template_piece c (chars more.now) }
+    ensures shorter { IfSome result (λ r. length r.now ≤ length more.now) }
+{
+    if c == '\\' {
+        return after_escape(more);
+    }
+    if c == '\r' {
+        return match after_char('\n', more) {
+            Some(next) => Some(next),
+            None => Some(more),
+        };
+    }
+    Some(more)
+}
+
 /// What follows the part of a template, and whether it ends at the template's end or at a hole.
-pub(crate) fn after_template(text: &str) -> Option<(Edge, &str)> {
+pub(crate) fn after_template(text: &str) -> Option<(Edge, &str)>
+    ensures value { Ends (chars text.now) (option_map (λ p. (edge_of p.0, chars p.1.now)) result) }
+    ensures shorter { IfSome result (λ p. length p.1.now ≤ length text.now) }
+{
     let mut rest = text;
     while let Some((c, more)) = split_first(rest) {
         if c == '`' {
@@ -124,13 +176,9 @@ pub(crate) fn after_template(text: &str) -> Option<(Edge, &str)> {
                 return Some((Edge::Hole, inside));
             }
         }
-        if c == '\\' {
-            match after_escape(more) {
-                None => return None,
-                Some(next) => rest = next,
-            }
-        } else {
-            rest = more;
+        match after_template_piece(c, more) {
+            None => return None,
+            Some(next) => rest = next,
         }
     }
     None

@@ -1,4 +1,8 @@
 // Reading a text from its front.
+ghost use Rattle.std.specs.Prelude.{◌≡◌, ◌<◌, ◌≤◌, ◌==◌, [], ◌∷◌, length, drop, chars, IfSome, MatchOption};
+ghost use Rattle.std.specs.Option.{option_map};
+ghost use Rattle.qk_ast.specs.Characters.{is_letter, is_digit, is_blank, begins_name, continues_name, begins_with, after_run};
+ghost use Rattle.qk_lex.specs.Scan.{after_char, is_in};
 
 /// What the characters of a run have in common.
 #[derive(Clone, Copy)]
@@ -16,19 +20,27 @@ pub(crate) enum Class {
     IsNot(char),
 }
 
-pub(crate) fn is_letter(c: char) -> bool {
+pub(crate) fn is_letter(c: char) -> bool
+    ensures { result ≡ is_letter c }
+{
     c.is_ascii_alphabetic()
 }
 
-pub(crate) fn is_digit(c: char) -> bool {
+pub(crate) fn is_digit(c: char) -> bool
+    ensures { result ≡ is_digit c }
+{
     c.is_ascii_digit()
 }
 
-pub(crate) fn is_blank(c: char) -> bool {
+pub(crate) fn is_blank(c: char) -> bool
+    ensures { result ≡ is_blank c }
+{
     c == ' ' || c == '\t' || c == '\n' || c == '\r'
 }
 
-pub(crate) fn begins_name(c: char) -> bool {
+pub(crate) fn begins_name(c: char) -> bool
+    ensures { result ≡ begins_name c }
+{
     if c == '_' || c == '$' {
         return true;
     }
@@ -38,7 +50,9 @@ pub(crate) fn begins_name(c: char) -> bool {
     unicode_ident::is_xid_start(c)
 }
 
-fn continues_name(c: char) -> bool {
+fn continues_name(c: char) -> bool
+    ensures { result ≡ continues_name c }
+{
     if c == '_' || c == '$' {
         return true;
     }
@@ -49,7 +63,9 @@ fn continues_name(c: char) -> bool {
 }
 
 impl Class {
-    pub(crate) fn has(self, c: char) -> bool {
+    pub(crate) fn has(self, c: char) -> bool
+        ensures { result ≡ is_in self c }
+    {
         match self {
             Class::Name => continues_name(c),
             Class::Digit => is_digit(c),
@@ -63,7 +79,10 @@ impl Class {
 }
 
 /// The first character of a text, and what follows it.
-pub(crate) fn split_first(text: &str) -> Option<(char, &str)> {
+pub(crate) fn split_first(text: &str) -> Option<(char, &str)>
+    ensures value { MatchOption result (chars text.now ≡ []) (λ p. chars text.now ≡ p.0 ∷ chars p.1.now) }
+    ensures shorter { IfSome result (λ p. length p.1.now < length text.now) }
+{
     let mut characters = text.chars();
     match characters.next() {
         None => None,
@@ -72,7 +91,10 @@ pub(crate) fn split_first(text: &str) -> Option<(char, &str)> {
 }
 
 /// What follows the character, where the text begins with it.
-pub(crate) fn after_char(c: char, text: &str) -> Option<&str> {
+pub(crate) fn after_char(c: char, text: &str) -> Option<&str>
+    ensures value { option_map (λ r. chars r.now) result ≡ after_char c (chars text.now) }
+    ensures shorter { IfSome result (λ r. length r.now < length text.now) }
+{
     match split_first(text) {
         None => None,
         Some((d, rest)) => { if d == c { Some(rest) } else { None } }
@@ -80,7 +102,9 @@ pub(crate) fn after_char(c: char, text: &str) -> Option<&str> {
 }
 
 /// Whether the first character is of the class.
-pub(crate) fn begins_with(class: Class, text: &str) -> bool {
+pub(crate) fn begins_with(class: Class, text: &str) -> bool
+    ensures { result ≡ begins_with (is_in class) (chars text.now) }
+{
     match split_first(text) {
         None => false,
         Some((c, _)) => class.has(c),
@@ -88,7 +112,10 @@ pub(crate) fn begins_with(class: Class, text: &str) -> bool {
 }
 
 /// What follows the characters of the class at the front.
-pub(crate) fn after_run(class: Class, text: &str) -> &str {
+pub(crate) fn after_run(class: Class, text: &str) -> &str
+    ensures value { chars result.now ≡ after_run (is_in class) (chars text.now) }
+    ensures within { length result.now ≤ length text.now }
+{
     let mut rest = text;
     while let Some((c, more)) = split_first(rest) {
         if !class.has(c) {
@@ -100,7 +127,10 @@ pub(crate) fn after_run(class: Class, text: &str) -> &str {
 }
 
 /// What follows the first `count` characters.
-pub(crate) fn skip(count: usize, text: &str) -> &str {
+pub(crate) fn skip(count: usize, text: &str) -> &str
+    ensures value { chars result.now ≡ drop count (chars text.now) }
+    ensures within { length result.now ≤ length text.now }
+{
     let mut rest = text;
     for _ in 0..count {
         let Some((_, more)) = split_first(rest) else {

@@ -1,0 +1,4 @@
+pub mod Choices
+pub mod GapLemmas
+pub mod EscapeLemmas
+pub mod QuoteLemmas
