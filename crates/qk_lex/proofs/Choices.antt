@@ -47,6 +47,9 @@ same_number c d h = eqb→eq c d (subst T (sym h) tt)
 pub number_same : (c : ℕ) → (c == c) ≡ true
 number_same c = eq-eqb c c refl
 
+pub number_differs : (c d : ℕ) → (c ≡ d → ⊥) → (c == d) ≡ false
+number_differs c d h = elim (either_way (c == d)) [ inl e ↦ absurd (h (same_number c d e)) | inr e ↦ e ]
+
 -- ---- a run and what follows it
 
 pub run_whole : (p : ℕ → Bool) (text : Characters) → run p text ++ after_run p text ≡ text

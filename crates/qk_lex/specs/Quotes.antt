@@ -1,5 +1,5 @@
 -- Texts in quotes, and templates.
-use Rattle.std.specs.Prelude.{◌≡◌, ℕ, zero, suc, ◌+◌, ◌*◌, min, Bool, true, false, ◌&&◌, if◌then◌else◌, ◌==◌, List, [], ◌∷◌, codes, Option, Some, None, IsTrue}
+use Rattle.std.specs.Prelude.{◌≡◌, ℕ, zero, suc, ◌+◌, ◌*◌, min, Bool, true, false, ◌&&◌, ◌||◌, if◌then◌else◌, ◌==◌, List, [], ◌∷◌, codes, Option, Some, None, IsTrue}
 use lib.Utf8.{scalar}
 use Rattle.qk_ast.specs.Characters.{Characters, has, is_hex_digit, digit_value}
 use Rattle.qk_ast.specs.Tokens.{Piece, pieces_spelling, are_text_pieces, are_template_pieces, closing, Edge, Backquote, Hole}
@@ -32,6 +32,10 @@ abbrev pub after_escape : Characters → Option Characters
 after_escape [] = None
 after_escape (c ∷ cs) = if has c (codes "nrt\\'\"`$") then Some cs else (if c == 117 then after_unicode cs (after_char 123 cs) else None)
 
+-- what follows a piece of a text, of which c is the first character
+abbrev pub after_text_piece : ℕ → Characters → Option Characters
+after_text_piece c text = if c == 92 then after_escape text else (if (c == 10) || (c == 13) then None else Some text)
+
 -- what follows the pieces of a text and the quote after them; None where no pieces and quote begin the text
 abbrev pub Closes : ℕ → Characters → Option Characters → Type 0
 Closes quote text None = (pieces : List Piece) (next : Characters) → IsTrue (are_text_pieces quote pieces) → pieces_spelling pieces (quote ∷ next) ≡ text → ⊥
@@ -44,6 +48,10 @@ this_or text (Some rest) = rest
 -- what follows a piece of a template, of which c is the first character
 abbrev pub after_template_piece : ℕ → Characters → Option Characters
 after_template_piece c text = if c == 92 then after_escape text else (if c == 13 then Some (this_or text (after_char 10 text)) else Some text)
+
+-- what follows `${`, of which c is the first character
+abbrev pub after_hole : ℕ → Characters → Option Characters
+after_hole c text = if c == 36 then after_char 123 text else None
 
 abbrev pub edge_of : part.Edge → Edge
 edge_of edge.Backquote = Backquote

@@ -3,7 +3,7 @@ ghost use Rattle.std.specs.Prelude.{◌≡◌, ◌<◌, ◌≤◌, ◌==◌, tru
 ghost use Rattle.std.specs.Option.{option_map};
 ghost use lib.Utf8.{scalar};
 ghost use Rattle.qk_ast.specs.Characters.{has, is_hex_digit, digit_value};
-ghost use Rattle.qk_lex.specs.Quotes.{with_digit, after_braced, after_digits, after_escape, Closes, Ends, edge_of, after_template_piece};
+ghost use Rattle.qk_lex.specs.Quotes.{with_digit, after_braced, after_digits, after_escape, Closes, Ends, edge_of, after_template_piece, after_text_piece, after_hole};
 
 use crate::scan::{after_char, split_first};
 
@@ -111,6 +111,20 @@ fn after_escape(text: &str) -> Option<&str>
     }
 }
 
+/// What follows a piece of a text, of which `c` is the first character. A raw line feed or carriage return is none.
+fn after_text_piece(c: char, more: &str) -> Option<&str>
+    ensures value { option_map (λ r. chars r.now) result ≡ after_text_piece c (chars more.now) }
+    ensures shorter { IfSome result (λ r. length r.now ≤ length more.now) }
+{
+    if c == '\\' {
+        return after_escape(more);
+    }
+    if c == '\n' || c == '\r' {
+        return None;
+    }
+    Some(more)
+}
+
 /// What follows the quote that closes a text.
 pub(crate) fn after_text(quote: char, text: &str) -> Option<&str>
     requires { (quote == 92) ≡ false }
@@ -122,16 +136,9 @@ pub(crate) fn after_text(quote: char, text: &str) -> Option<&str>
         if c == quote {
             return Some(more);
         }
-        if c == '\n' || c == '\r' {
-            return None;
-        }
-        if c == '\\' {
-            match after_escape(more) {
-                None => return None,
-                Some(next) => rest = next,
-            }
-        } else {
-            rest = more;
+        match after_text_piece(c, more) {
+            None => return None,
+            Some(next) => rest = next,
         }
     }
     None
@@ -161,6 +168,18 @@ fn after_template_piece(c: char, more: &str) -> Option<&str>
     Some(more)
 }
 
+/// What follows `${`, of which `c` is the first character.
+fn after_hole(c: char, more: &str) -> Option<&str>
+    ensures value { option_map (λ r. chars r.now) result ≡ after_hole c (chars more.now) }
+    ensures shorter { IfSome result (λ r. length r.now ≤ length more.now) }
+{
+    if c == '$' {
+        after_char('{', more)
+    } else {
+        None
+    }
+}
+
 /// What follows the part of a template, and whether it ends at the template's end or at a hole.
 pub(crate) fn after_template(text: &str) -> Option<(Edge, &str)>
     ensures value { Ends (chars text.now) (option_map (λ p. (edge_of p.0, chars p.1.now)) result) }
@@ -171,10 +190,8 @@ pub(crate) fn after_template(text: &str) -> Option<(Edge, &str)>
         if c == '`' {
             return Some((Edge::Backquote, more));
         }
-        if c == '$' {
-            if let Some(inside) = after_char('{', more) {
-                return Some((Edge::Hole, inside));
-            }
+        if let Some(inside) = after_hole(c, more) {
+            return Some((Edge::Hole, inside));
         }
         match after_template_piece(c, more) {
             None => return None,
