@@ -1,3 +1,6 @@
 pub mod Scan
 pub mod Gaps
 pub mod Quotes
+pub mod Tables
+pub mod Around_place
+pub mod Steps

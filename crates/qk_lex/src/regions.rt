@@ -1,6 +1,9 @@
 // The regions around a place.
+ghost use Rattle.std.specs.Prelude.{◌≡◌, [], ◌∷◌, OnOk};
+ghost use Rattle.std.specs.Option.{option_map};
 
 use std::alloc::{AllocError, Global};
+use std::marker::Model;
 
 /// What surrounds a place: the braces of code, a template's hole, an opening tag, a closing tag, or a JSX element between its tags.
 #[derive(Clone, Copy)]
@@ -28,27 +31,49 @@ pub(crate) struct Regions {
     within: Vec<Region>,
 }
 
+impl Model for Regions {
+    ghost use Rattle.qk_ast.specs.Tokens.{Around};
+    ghost use Rattle.qk_lex.specs.Around_place.{around_of};
+
+    ghost Value = { Around };
+
+    ghost view = { λ r. around_of r.within.items };
+}
+
 impl Regions {
-    pub(crate) fn new(alloc: Global) -> Regions {
+    ghost use Rattle.qk_ast.specs.Tokens.{leave};
+    ghost use Rattle.qk_lex.specs.Around_place.{region_of, innermost, changed};
+
+    pub(crate) fn new(alloc: Global) -> Regions
+        ensures { result ≡ [] }
+    {
         Regions {
             within: Vec::new(alloc),
         }
     }
 
-    pub(crate) fn innermost(&self) -> Option<Region> {
+    pub(crate) fn innermost(&self) -> Option<Region>
+        ensures { option_map region_of result ≡ innermost self.now }
+    {
         self.within.last().copied()
     }
 
-    fn enter(&mut self, region: Region) -> Result<(), AllocError> {
+    fn enter(&mut self, region: Region) -> Result<(), AllocError>
+        ensures { OnOk result (self.new ≡ region_of region ∷ self.old) }
+    {
         self.within.push(region)?;
         Ok(())
     }
 
-    fn leave(&mut self) {
+    fn leave(&mut self)
+        ensures { self.new ≡ leave self.old }
+    {
         let _ = self.within.pop();
     }
 
-    pub(crate) fn follow(&mut self, change: Change) -> Result<(), AllocError> {
+    pub(crate) fn follow(&mut self, change: Change) -> Result<(), AllocError>
+        ensures { OnOk result (self.new ≡ changed change self.old) }
+    {
         match change {
             Change::Stay => Ok(()),
             Change::Enter(region) => self.enter(region),

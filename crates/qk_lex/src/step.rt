@@ -1,4 +1,7 @@
 // The token at the front of a text.
+ghost use Rattle.std.specs.Prelude.{◌≡◌, ◌<◌, ◌≤◌, ◌^◌, ◌==◌, false, true, ◌∷◌, ◌++◌, length, chars, IfSome, None};
+ghost use Rattle.std.specs.Option.{option_map};
+ghost use Rattle.qk_ast.specs.Characters.{is_digit, is_letter, begins_name, continues_name, run, after_run};
 
 use crate::Kind;
 use crate::quoted::{Edge, after_template, after_text};
@@ -20,7 +23,9 @@ pub(crate) struct Found<'a> {
 }
 
 /// A token that leaves the regions as they are, and after which a `<` begins no JSX.
-fn plain(kind: Kind, rest: &str) -> Found<'_> {
+fn plain(kind: Kind, rest: &str) -> Found<'_>
+    ensures { next_of result ≡ spec.plain kind (chars rest.now) }
+{
     Found {
         kind,
         rest,

@@ -1,4 +1,9 @@
 // The reserved words and the punctuators.
+ghost use Rattle.std.specs.Prelude.{◌≡◌, ◌&&◌, if◌then◌else◌, nat_lt, [], length, map, chars, Some};
+ghost use Rattle.qk_ast.specs.Characters.{same, is_one_of, is_front};
+ghost use Rattle.qk_ast.specs.Tokens.{reserved_words, allows_jsx, longest_after};
+ghost use Rattle.qk_ast.specs.Tokens as tokens;
+ghost use Rattle.qk_lex.specs.Tables.{sign_at, signs_of};
 
 /// The words that are no names.
 const RESERVED: [&[u8]; 49] = [
@@ -79,11 +84,15 @@ pub(crate) enum Signs {
     Begin,
 }
 
-pub(crate) fn is_same(a: &[u8], b: &[u8]) -> bool {
+pub(crate) fn is_same(a: &[u8], b: &[u8]) -> bool
+    ensures { result ≡ same a.now b.now }
+{
     a == b
 }
 
-fn is_listed(mut table: &[&[u8]], word: &[u8]) -> bool {
+fn is_listed(mut table: &[&[u8]], word: &[u8]) -> bool
+    ensures { result ≡ is_one_of word.now (map (λ k. k.now) table.entry.now) }
+{
     while let [entry, rest @ ..] = table {
         if is_same(word, entry) {
             return true;
@@ -93,34 +102,55 @@ fn is_listed(mut table: &[&[u8]], word: &[u8]) -> bool {
     false
 }
 
+/// The sign, where the text begins with it and it is longer than the best so far.
+fn better<'a>(best: &'a [u8], sign: &'a [u8], text: &[u8]) -> &'a [u8]
+    ensures { result.now ≡ (if is_front sign.now text.now && nat_lt (length best.now) (length sign.now) then sign.now else best.now) }
+{
+    if !text.starts_with(sign) {
+        return best;
+    }
+    if best.len() < sign.len() { sign } else { best }
+}
+
 /// The longest of the signs that the text begins with; empty where it begins with none.
-fn longest<'a>(mut table: &[&'a [u8]], text: &[u8]) -> &'a [u8] {
+fn longest<'a>(mut table: &[&'a [u8]], text: &[u8]) -> &'a [u8]
+    ensures { result.now ≡ longest_after [] (map (λ k. k.now) table.entry.now) text.now }
+{
     let mut best: &'a [u8] = b"";
     while let [sign, rest @ ..] = table {
-        if text.starts_with(sign) && best.len() < sign.len() {
-            best = sign;
-        }
+        best = better(best, sign, text);
         table = rest;
     }
     best
 }
 
-pub(crate) fn is_reserved(word: &[u8]) -> bool {
+pub(crate) fn is_reserved(word: &[u8]) -> bool
+    ensures { result ≡ is_one_of word.now reserved_words }
+{
     is_listed(&RESERVED, word)
 }
 
 /// Whether a `<` after this sign begins JSX.
-pub(crate) fn is_before_jsx(sign: &[u8]) -> bool {
+pub(crate) fn is_before_jsx(sign: &[u8]) -> bool
+    ensures { result ≡ allows_jsx (Some (tokens.Punct sign.now)) }
+{
     is_listed(&BEFORE_JSX, sign)
 }
 
-/// The longest sign that the text begins with; empty where it begins with none.
-pub(crate) fn sign_at(signs: Signs, text: &str) -> &'static [u8] {
-    let bytes = text.as_bytes();
+fn table_of(signs: Signs) -> &'static [&'static [u8]]
+    ensures { map (λ k. k.now) result.now ≡ signs_of signs }
+{
     match signs {
-        Signs::Code => longest(&CODE_SIGNS, bytes),
-        Signs::Tag => longest(&TAG_SIGNS, bytes),
-        Signs::Child => longest(&CHILD_SIGNS, bytes),
-        Signs::Begin => longest(&BEGIN_SIGNS, bytes),
+        Signs::Code => &CODE_SIGNS,
+        Signs::Tag => &TAG_SIGNS,
+        Signs::Child => &CHILD_SIGNS,
+        Signs::Begin => &BEGIN_SIGNS,
     }
+}
+
+/// The longest sign that the text begins with; empty where it begins with none.
+pub(crate) fn sign_at(signs: Signs, text: &str) -> &'static [u8]
+    ensures { result.now ≡ sign_at signs (chars text.now) }
+{
+    longest(table_of(signs), text.as_bytes())
 }
