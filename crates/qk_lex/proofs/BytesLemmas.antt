@@ -8,10 +8,11 @@ use native.Mathlib.Omega.{arith}
 use lib.Dec.{T, ltb→lt, lt→ltb}
 use lib.Pointwise.{pointwise}
 use lib.ListN.{get_or}
+use Rattle.std.proofs.Common.{length-append}
 use Rattle.std.proofs.lemmas.Bool.{false≢true, cases_lt}
-use Rattle.std.proofs.lemmas.Str.{byte_from_char, char_from_byte, encode_ascii, length-encode, len_utf8_bounds}
+use Rattle.std.proofs.lemmas.Str.{byte_from_char, char_from_byte, encode_ascii, encodes-append, length-encode, len_utf8_bounds}
 use Rattle.qk_ast.specs.Characters.{Characters, same, is_one_of, is_front}
-use Rattle.qk_ast.specs.Tokens.{longest_after, reserved_words, code_signs, tag_signs, child_signs, begin_signs}
+use Rattle.qk_ast.specs.Tokens.{longest_after, reserved_words, code_signs, tag_signs, child_signs}
 use Rattle.qk_ast.proofs.FrontToken.{left, right, if_true, if_false}
 use Rattle.qk_lex.specs.declared.tables.Signs.{Signs}
 use Rattle.qk_lex.specs.declared.tables.Signs.TheVariants as signs
@@ -32,13 +33,13 @@ AllAscii (c ∷ cs) = (c < 128) × AllAscii cs
 first_byte : (a c : ℕ) (b : ℕ) (bs rest : List ℕ) → a < 128 → b ∷ bs ≡ encode_utf8 c ++ rest → ((a == b) ≡ (a == c)) × ((a == b) ≡ true → bs ≡ rest)
 first_byte a c b bs rest h e = elim (cases_lt b 128) [
   | inl k ↦
-    let same_is : c ≡ b = char_from_byte (b ∷ bs) rest c e k (omega arith) in
-    let whole : b ∷ bs ≡ c ∷ rest = e ∙ ap (λ x. x ++ rest) (encode_ascii c (subst (λ x. x < 128) (sym same_is) k)) in
-    (ap (λ x. a == x) (sym same_is), λ _. ap tail_of whole)
+      let same_is : c ≡ b = char_from_byte (b ∷ bs) rest c e k (omega arith) in
+      let whole : b ∷ bs ≡ c ∷ rest = e ∙ ap (λ x. x ++ rest) (encode_ascii c (subst (λ x. x < 128) (sym same_is) k)) in
+      (ap (λ x. a == x) (sym same_is), λ _. ap tail_of whole)
   | inr k ↦
-    let no_b : (a == b) ≡ false = number_differs a b (λ q. absurd (omega (arith, h, k, q))) in
-    let no_c : (a == c) ≡ false = number_differs a c (λ q. not_c (subst (λ x. x < 128) q h) k) in
-    (no_b ∙ sym no_c, λ q. absurd (false≢true (sym no_b ∙ q)))
+      let no_b : (a == b) ≡ false = number_differs a b (λ q. absurd (omega (arith, h, k, q))) in
+      let no_c : (a == c) ≡ false = number_differs a c (λ q. not_c (subst (λ x. x < 128) q h) k) in
+      (no_b ∙ sym no_c, λ q. absurd (false≢true (sym no_b ∙ q)))
 ]
   where
     tail_of : List ℕ → List ℕ
@@ -114,7 +115,7 @@ one_of_bytes (w ∷ ws) h cs = ap (λ b. b || is_one_of (encode_utf8_all cs) ws)
 
 -- ---- the tables of the definition are of ASCII
 
-abbrev is_ascii_word : Characters → Bool
+abbrev pub is_ascii_word : Characters → Bool
 is_ascii_word [] = true
 is_ascii_word (c ∷ cs) = nat_lt c 128 && is_ascii_word cs
 
@@ -122,7 +123,7 @@ abbrev are_ascii : List Characters → Bool
 are_ascii [] = true
 are_ascii (w ∷ ws) = is_ascii_word w && are_ascii ws
 
-ascii_word : (w : Characters) → is_ascii_word w ≡ true → AllAscii w
+pub ascii_word : (w : Characters) → is_ascii_word w ≡ true → AllAscii w
 ascii_word [] h = tt
 ascii_word (c ∷ cs) h = (ltb→lt c 128 (subst T (sym (left (nat_lt c 128) _ h)) tt), ascii_word cs (right (nat_lt c 128) _ h))
 
@@ -141,9 +142,6 @@ tag_ascii = ascii_words tag_signs refl
 
 pub child_ascii : AllSigns child_signs
 child_ascii = ascii_words child_signs refl
-
-pub begin_ascii : AllSigns begin_signs
-begin_ascii = ascii_words begin_signs refl
 
 -- ---- what the functions of the tables answer
 
@@ -177,8 +175,19 @@ pub signs_ascii : (signs : Signs) → AllSigns (signs_of signs)
 signs_ascii signs.Code = code_ascii
 signs_ascii signs.Tag = tag_ascii
 signs_ascii signs.Child = child_ascii
-signs_ascii signs.Begin = begin_ascii
 
 -- the longest of these signs in the bytes of a text
 pub longest_in : (signs : List Characters) → AllSigns signs → (bytes text found : List ℕ) → found ≡ longest_after [] signs bytes → bytes ≡ encode_utf8_all text → found ≡ longest_after [] signs text
 longest_in signs h bytes text found e k = e ∙ (ap (λ t. longest_after [] signs t) k ∙ longest_bytes signs h [] text)
+
+taken_all : (xs ys : List ℕ) → take (length xs) (xs ++ ys) ≡ xs
+taken_all [] ys = refl
+taken_all (x ∷ xs) ys = ap (λ zs. x ∷ zs) (taken_all xs ys)
+
+-- the bytes before what is left
+pub front_is : (bytes rest : List ℕ) (w r : Characters) → encode_utf8_all (w ++ r) ≡ bytes → encode_utf8_all r ≡ rest → take (length bytes - length rest) bytes ≡ encode_utf8_all w
+front_is bytes rest w r e k =
+    ap (λ b. take (length b - length rest) b) (sym e ∙ (encodes-append w r ∙ ap (λ t. encode_utf8_all w ++ t) k)) ∙ taken (encode_utf8_all w) rest
+  where
+    taken : (xs ys : List ℕ) → take (length (xs ++ ys) - length ys) (xs ++ ys) ≡ xs
+    taken xs ys = ap (λ n. take n (xs ++ ys)) (omega (arith, length-append xs ys)) ∙ taken_all xs ys

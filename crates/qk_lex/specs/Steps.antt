@@ -10,6 +10,7 @@ use Rattle.qk_lex.specs.declared.regions.Change.{Change}
 use Rattle.qk_lex.specs.declared.regions.Change.TheVariants as change
 use Rattle.qk_lex.specs.declared.scan.Class.TheVariants as class
 use Rattle.qk_lex.specs.declared.step.Found.{Found}
+use Rattle.qk_lex.specs.declared.tables.Signs.{Signs}
 use Rattle.qk_lex.specs.declared.tables.Signs.TheVariants as signs
 use Rattle.qk_lex.specs.Scan.{is_in, after_char}
 use Rattle.qk_lex.specs.Quotes.{Closes, Ends}
@@ -47,7 +48,7 @@ number_at n (c ∷ cs) = if is_digit c then number_at (min n 9007199254740992 * 
 abbrev pub int_end : Characters → Characters → Option Next
 int_end text rest = if begins_with continues_name rest || nat_lt greatest (number_at 0 text) then None else Some (plain kind.Int rest)
 
-unfoldable pub int_next : ℕ → Characters → Characters → Option Next
+abbrev pub int_next : ℕ → Characters → Characters → Option Next
 int_next first text more = if (first == 48) && begins_with is_digit more then None else int_end text (after_run is_digit more)
 
 abbrev pub QuotedNext : ℕ → Characters → Option Next → Type 0
@@ -63,11 +64,13 @@ abbrev pub PartNext : Edge → Characters → Option Next → Type 0
 PartNext from text None = Ends text None
 PartNext from text (Some next) = (to : Edge) × Ends text (Some (to, next.rest)) × (next ≡ record { kind = kind.TemplatePart; rest = next.rest; change = part_change from to; opens = false })
 
-abbrev pub begin_by : Characters → Characters → Next
-begin_by sign text = record { kind = kind.Punct; rest = drop (length sign) text; change = change.Enter (if same sign (codes "<") then region.Tag else region.Children); opens = false }
+abbrev pub begin_by : Characters → Option Characters → Next
+begin_by more None = record { kind = kind.Punct; rest = more; change = change.Enter region.Tag; opens = false }
+begin_by more (Some rest) = record { kind = kind.Punct; rest = rest; change = change.Enter region.Children; opens = false }
 
-unfoldable pub begin_next : Characters → Next
-begin_next text = begin_by (sign_at signs.Begin text) text
+-- after the `<`
+abbrev pub begin_next : Characters → Next
+begin_next more = begin_by more (after_char 62 more)
 
 abbrev pub opens_comment : Characters → Bool
 opens_comment rest = begins_with (λ c. c == 47) rest || begins_with (λ c. c == 42) rest
@@ -76,14 +79,21 @@ abbrev pub code_change : Characters → Change
 code_change sign = if same sign (codes "{") then change.Enter region.Braces else (if same sign (codes "}") then change.Leave else change.Stay)
 
 abbrev pub sign_next : Characters → Characters → Change → Next
-sign_next sign text change = record { kind = kind.Punct; rest = drop (length sign) text; change = change; opens = allows_jsx (Some (tokens.Punct sign)) }
+sign_next sign rest change = record { kind = kind.Punct; rest = rest; change = change; opens = allows_jsx (Some (tokens.Punct sign)) }
 
-abbrev pub code_by : Characters → Characters → Option Next
-code_by sign text =
-    if length sign == 0 then None else (if same sign (codes "/") && opens_comment (drop (length sign) text) then None else Some (sign_next sign text (code_change sign)))
+-- a sign of a table that the text begins with, and what follows it
+abbrev pub sign_or_none : Characters → Characters → Option (Characters × Characters)
+sign_or_none sign text = if length sign == 0 then None else Some (sign, drop (length sign) text)
 
-unfoldable pub code_sign_next : Characters → Option Next
-code_sign_next text = code_by (sign_at signs.Code text) text
+unfoldable pub sign_of : Signs → Characters → Option (Characters × Characters)
+sign_of table text = sign_or_none (sign_at table text) text
+
+abbrev pub code_by : Option (Characters × Characters) → Option Next
+code_by None = None
+code_by (Some found) = if same found.0 (codes "/") && opens_comment found.1 then None else Some (sign_next found.0 found.1 (code_change found.0))
+
+abbrev pub code_sign_next : Characters → Option Next
+code_sign_next text = code_by (sign_of signs.Code text)
 
 -- ---- tags, and the text between them
 
@@ -92,34 +102,36 @@ this_or_rest rest None = rest
 this_or_rest rest (Some more) = more
 
 -- what follows the name of a tag or attribute, after its first letter
-unfoldable pub after_tag_name : Characters → Characters
+abbrev pub after_tag_name : Characters → Characters
 after_tag_name text = this_or_rest (after_run continues_attribute text) (after_char 36 (after_run continues_attribute text))
 
 abbrev pub plain_or_none : Kind → Option Characters → Option Next
 plain_or_none k None = None
 plain_or_none k (Some rest) = Some (plain k rest)
 
-unfoldable pub attribute_next : ℕ → Characters → Option Next
+abbrev pub attribute_next : ℕ → Characters → Option Next
 attribute_next quote text = plain_or_none kind.Text (after_char quote (after_run (λ c. not (c == quote)) text))
 
 abbrev pub tag_change : Characters → Change
 tag_change sign = if same sign (codes "{") then change.Enter region.Braces else (if same sign (codes ">") then change.Turn region.Children
     else (if same sign (codes "/>") then change.Leave else change.Stay))
 
-abbrev pub tag_by : Characters → Characters → Option Next
-tag_by sign text = if length sign == 0 then None else Some (sign_next sign text (tag_change sign))
+abbrev pub tag_by : Option (Characters × Characters) → Option Next
+tag_by None = None
+tag_by (Some found) = Some (sign_next found.0 found.1 (tag_change found.0))
 
-unfoldable pub tag_sign_next : Characters → Option Next
-tag_sign_next text = tag_by (sign_at signs.Tag text) text
+abbrev pub tag_sign_next : Characters → Option Next
+tag_sign_next text = tag_by (sign_of signs.Tag text)
 
 abbrev pub child_change : Characters → Change
 child_change sign = if same sign (codes "{") then change.Enter region.Braces else (if same sign (codes "</") then change.Turn region.End else change.Leave)
 
-abbrev pub child_by : Characters → Characters → Option Next
-child_by sign text = if length sign == 0 then (if begins_with (λ c. c == 60) text then Some (begin_next text) else None) else Some (sign_next sign text (child_change sign))
+abbrev pub child_by : Option Next → Option (Characters × Characters) → Option Next
+child_by other None = other
+child_by other (Some found) = Some (sign_next found.0 found.1 (child_change found.0))
 
-abbrev pub child_sign_next : Characters → Option Next
-child_sign_next text = child_by (sign_at signs.Child text) text
+abbrev pub child_sign_next : ℕ → Characters → Characters → Option Next
+child_sign_next first more text = child_by (if first == 60 then Some (begin_next more) else None) (sign_of signs.Child text)
 
 -- ---- what it must be
 

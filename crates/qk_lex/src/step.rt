@@ -1,7 +1,12 @@
 // The token at the front of a text.
-ghost use Rattle.std.specs.Prelude.{◌≡◌, ◌<◌, ◌≤◌, ◌^◌, ◌==◌, false, true, ◌∷◌, ◌++◌, length, chars, IfSome, None};
+ghost use Rattle.std.specs.Prelude.{◌≡◌, ◌<◌, ◌≤◌, ◌-◌, ◌==◌, ℕ, false, true, ◌∷◌, length, chars, IfSome};
 ghost use Rattle.std.specs.Option.{option_map};
-ghost use Rattle.qk_ast.specs.Characters.{is_digit, is_letter, begins_name, continues_name, run, after_run};
+ghost use Rattle.qk_ast.specs.Characters.{is_digit, continues_name, run, after_run};
+ghost use Rattle.qk_ast.specs.Tokens.{Around, is_tag_token, is_end_token, is_child_token, In_tag, In_end, Children, is_token};
+ghost use Rattle.qk_ast.specs.Tokens as tokens;
+ghost use Rattle.qk_lex.specs.Quotes.{edge_of};
+ghost use Rattle.qk_lex.specs.Around_place.{region_of, innermost};
+ghost use Rattle.qk_lex.specs.Steps as spec;
 
 use crate::Kind;
 use crate::quoted::{Edge, after_template, after_text};
@@ -24,7 +29,8 @@ pub(crate) struct Found<'a> {
 
 /// A token that leaves the regions as they are, and after which a `<` begins no JSX.
 fn plain(kind: Kind, rest: &str) -> Found<'_>
-    ensures { next_of result ≡ spec.plain kind (chars rest.now) }
+    ensures value { spec.next_of result ≡ spec.plain kind (chars rest.now) }
+    ensures same { result.rest.now ≡ rest.now }
 {
     Found {
         kind,
@@ -35,7 +41,11 @@ fn plain(kind: Kind, rest: &str) -> Found<'_>
 }
 
 /// A name or a reserved word, which begins with that character.
-fn word<'a>(text: &'a str, more: &'a str) -> Found<'a> {
+fn word<'a>(text: &'a str, more: &'a str) -> Found<'a>
+    requires { length more.now ≤ length text.now }
+    ensures value { (c : ℕ) → chars text.now ≡ c ∷ chars more.now → spec.next_of result ≡ spec.word_next (c ∷ run continues_name (chars more.now)) (after_run continues_name (chars more.now)) }
+    ensures shorter { length result.rest.now ≤ length more.now }
+{
     let rest = after_run(Class::Name, more);
     let word = &text.as_bytes()[..text.len() - rest.len()];
     if is_reserved(word) {
@@ -53,22 +63,35 @@ fn word<'a>(text: &'a str, more: &'a str) -> Found<'a> {
 /// The greatest integer that an Int may write.
 const GREATEST: u64 = 9_007_199_254_740_991;
 
+fn digit_value(c: char) -> u64
+    requires { is_digit c ≡ true }
+    ensures value { result ≡ c - 48 }
+    ensures small { result < 10 }
+{
+    c as u64 - 48
+}
+
 /// The number that the digits at the front write, or one past the greatest where it is greater.
-fn number(text: &str) -> u64 {
+fn number(text: &str) -> u64
+    ensures { result ≡ spec.number_at 0 (chars text.now) }
+{
     let mut rest = text;
     let mut number: u64 = 0;
     while let Some((c, more)) = split_first(rest) {
         if !is_digit(c) {
             return number;
         }
-        number = number.min(GREATEST + 1) * 10 + (c as u64 - 48);
+        number = number.min(GREATEST + 1) * 10 + digit_value(c);
         rest = more;
     }
     number
 }
 
 /// An Int, whose first digit is `first`. A run of name characters that is no Int is no token.
-fn int<'a>(first: char, text: &'a str, more: &'a str) -> Option<Found<'a>> {
+fn int<'a>(first: char, text: &'a str, more: &'a str) -> Option<Found<'a>>
+    ensures value { option_map spec.next_of result ≡ spec.int_next first (chars text.now) (chars more.now) }
+    ensures shorter { IfSome result (λ f. length f.rest.now ≤ length more.now) }
+{
     if first == '0' && begins_with(Class::Digit, more) {
         return None;
     }
@@ -80,7 +103,11 @@ fn int<'a>(first: char, text: &'a str, more: &'a str) -> Option<Found<'a>> {
 }
 
 /// A text, after its opening quote.
-fn quoted(quote: char, more: &str) -> Option<Found<'_>> {
+fn quoted(quote: char, more: &str) -> Option<Found<'_>>
+    requires { (quote == 92) ≡ false }
+    ensures value { spec.QuotedNext quote (chars more.now) (option_map spec.next_of result) }
+    ensures shorter { IfSome result (λ f. length f.rest.now ≤ length more.now) }
+{
     match after_text(quote, more) {
         None => None,
         Some(rest) => Some(plain(Kind::Text, rest)),
@@ -88,7 +115,10 @@ fn quoted(quote: char, more: &str) -> Option<Found<'_>> {
 }
 
 /// A part of a template, after what opens it.
-fn template(from: Edge, more: &str) -> Option<Found<'_>> {
+fn template(from: Edge, more: &str) -> Option<Found<'_>>
+    ensures value { spec.PartNext (edge_of from) (chars more.now) (option_map spec.next_of result) }
+    ensures shorter { IfSome result (λ f. length f.rest.now ≤ length more.now) }
+{
     let Some((to, rest)) = after_template(more) else {
         return None;
     };
@@ -105,52 +135,90 @@ fn template(from: Edge, more: &str) -> Option<Found<'_>> {
     })
 }
 
-/// A `<` or `<>` that begins JSX.
-fn begin(text: &str) -> Found<'_> {
-    let sign = sign_at(Signs::Begin, text);
-    Found {
-        kind: Kind::Punct,
-        rest: skip(sign.len(), text),
-        change: Change::Enter(if is_same(sign, b"<") {
-            Region::Tag
-        } else {
-            Region::Children
-        }),
-        before_jsx: false,
+/// A `<` or `<>` that begins JSX, after its `<`.
+fn begin(more: &str) -> Found<'_>
+    ensures value { spec.next_of result ≡ spec.begin_next (chars more.now) }
+    ensures shorter { length result.rest.now ≤ length more.now }
+{
+    match after_char('>', more) {
+        Some(rest) => Found {
+            kind: Kind::Punct,
+            rest,
+            change: Change::Enter(Region::Children),
+            before_jsx: false,
+        },
+        None => Found {
+            kind: Kind::Punct,
+            rest: more,
+            change: Change::Enter(Region::Tag),
+            before_jsx: false,
+        },
     }
 }
 
 /// Whether a `/` stands before a comment, closed or not.
-fn opens_comment(rest: &str) -> bool {
+fn opens_comment(rest: &str) -> bool
+    ensures { result ≡ spec.opens_comment (chars rest.now) }
+{
     begins_with(Class::Is('/'), rest) || begins_with(Class::Is('*'), rest)
 }
 
-fn code_sign(text: &str) -> Option<Found<'_>> {
-    let sign = sign_at(Signs::Code, text);
+/// A punctuator that the text begins with, and what follows it. Its first character is followed by `more`.
+fn sign_of<'a>(signs: Signs, text: &str, more: &'a str) -> Option<(&'static [u8], &'a str)>
+    ensures value { (c : ℕ) → chars text.now ≡ c ∷ chars more.now → option_map (λ p. (p.0.now, chars p.1.now)) result ≡ spec.sign_of signs (chars text.now) }
+    ensures shorter { IfSome result (λ p. length p.1.now ≤ length more.now) }
+{
+    let sign = sign_at(signs, text);
     if sign.is_empty() {
         return None;
     }
-    let rest = skip(sign.len(), text);
-    if is_same(sign, b"/") && opens_comment(rest) {
-        return None;
-    }
-    let change = if is_same(sign, b"{") {
-        Change::Enter(Region::Braces)
-    } else if is_same(sign, b"}") {
-        Change::Leave
-    } else {
-        Change::Stay
-    };
-    Some(Found {
+    Some((sign, skip(sign.len() - 1, more)))
+}
+
+/// A punctuator, and what it does to the regions.
+fn punct<'a>(sign: &[u8], rest: &'a str, change: Change) -> Found<'a>
+    ensures value { spec.next_of result ≡ spec.sign_next sign.now (chars rest.now) change }
+    ensures same { result.rest.now ≡ rest.now }
+{
+    Found {
         kind: Kind::Punct,
         rest,
         change,
         before_jsx: is_before_jsx(sign),
-    })
+    }
+}
+
+fn code_change(sign: &[u8]) -> Change
+    ensures { result ≡ spec.code_change sign.now }
+{
+    if is_same(sign, b"{") {
+        return Change::Enter(Region::Braces);
+    }
+    if is_same(sign, b"}") {
+        return Change::Leave;
+    }
+    Change::Stay
+}
+
+/// A punctuator of code.
+fn code_sign<'a>(text: &str, more: &'a str) -> Option<Found<'a>>
+    ensures value { (c : ℕ) → chars text.now ≡ c ∷ chars more.now → option_map spec.next_of result ≡ spec.code_sign_next (chars text.now) }
+    ensures shorter { IfSome result (λ f. length f.rest.now ≤ length more.now) }
+{
+    let Some((sign, rest)) = sign_of(Signs::Code, text, more) else {
+        return None;
+    };
+    if is_same(sign, b"/") && opens_comment(rest) {
+        return None;
+    }
+    Some(punct(sign, rest, code_change(sign)))
 }
 
 /// A token of code. In a template's hole a `}` goes on with the template.
-fn code_token(text: &str, in_hole: bool, before_jsx: bool) -> Option<Found<'_>> {
+fn code_token(text: &str, in_hole: bool, before_jsx: bool) -> Option<Found<'_>>
+    ensures value { spec.CodeSteps in_hole before_jsx (chars text.now) (option_map spec.next_of result) }
+    ensures shorter { IfSome result (λ f. length f.rest.now < length text.now) }
+{
     let Some((c, more)) = split_first(text) else {
         return None;
     };
@@ -170,13 +238,16 @@ fn code_token(text: &str, in_hole: bool, before_jsx: bool) -> Option<Found<'_>> 
         return template(Edge::Hole, more);
     }
     if c == '<' && before_jsx {
-        return Some(begin(text));
+        return Some(begin(more));
     }
-    code_sign(text)
+    code_sign(text, more)
 }
 
 /// What follows the name of a tag or attribute, after its first letter.
-fn after_tag_name(text: &str) -> &str {
+fn after_tag_name(text: &str) -> &str
+    ensures value { chars result.now ≡ spec.after_tag_name (chars text.now) }
+    ensures within { length result.now ≤ length text.now }
+{
     let rest = after_run(Class::Attribute, text);
     match after_char('$', rest) {
         Some(more) => more,
@@ -185,37 +256,47 @@ fn after_tag_name(text: &str) -> &str {
 }
 
 /// The text of an attribute, after its opening quote.
-fn attribute_text(quote: char, more: &str) -> Option<Found<'_>> {
+fn attribute_text(quote: char, more: &str) -> Option<Found<'_>>
+    ensures value { option_map spec.next_of result ≡ spec.attribute_next quote (chars more.now) }
+    ensures shorter { IfSome result (λ f. length f.rest.now ≤ length more.now) }
+{
     match after_char(quote, after_run(Class::IsNot(quote), more)) {
         None => None,
         Some(rest) => Some(plain(Kind::Text, rest)),
     }
 }
 
-fn tag_sign(text: &str) -> Option<Found<'_>> {
-    let sign = sign_at(Signs::Tag, text);
-    if sign.is_empty() {
-        return None;
+fn tag_change(sign: &[u8]) -> Change
+    ensures { result ≡ spec.tag_change sign.now }
+{
+    if is_same(sign, b"{") {
+        return Change::Enter(Region::Braces);
     }
-    let change = if is_same(sign, b"{") {
-        Change::Enter(Region::Braces)
-    } else if is_same(sign, b">") {
-        Change::Turn(Region::Children)
-    } else if is_same(sign, b"/>") {
-        Change::Leave
-    } else {
-        Change::Stay
-    };
-    Some(Found {
-        kind: Kind::Punct,
-        rest: skip(sign.len(), text),
-        change,
-        before_jsx: is_before_jsx(sign),
-    })
+    if is_same(sign, b">") {
+        return Change::Turn(Region::Children);
+    }
+    if is_same(sign, b"/>") {
+        return Change::Leave;
+    }
+    Change::Stay
+}
+
+/// A punctuator of an opening tag.
+fn tag_sign<'a>(text: &str, more: &'a str) -> Option<Found<'a>>
+    ensures value { (c : ℕ) → chars text.now ≡ c ∷ chars more.now → option_map spec.next_of result ≡ spec.tag_sign_next (chars text.now) }
+    ensures shorter { IfSome result (λ f. length f.rest.now ≤ length more.now) }
+{
+    match sign_of(Signs::Tag, text, more) {
+        None => None,
+        Some((sign, rest)) => Some(punct(sign, rest, tag_change(sign))),
+    }
 }
 
 /// A token of an opening tag.
-fn tag_token(text: &str) -> Option<Found<'_>> {
+fn tag_token(text: &str) -> Option<Found<'_>>
+    ensures value { (around : Around) → (before_jsx : _) → spec.Steps (λ _ t rest. is_tag_token t rest) (In_tag ∷ around) before_jsx (chars text.now) (option_map spec.next_of result) }
+    ensures shorter { IfSome result (λ f. length f.rest.now < length text.now) }
+{
     let Some((c, more)) = split_first(text) else {
         return None;
     };
@@ -225,11 +306,14 @@ fn tag_token(text: &str) -> Option<Found<'_>> {
     if c == '\'' || c == '"' {
         return attribute_text(c, more);
     }
-    tag_sign(text)
+    tag_sign(text, more)
 }
 
 /// A token of a closing tag.
-fn end_token(text: &str) -> Option<Found<'_>> {
+fn end_token(text: &str) -> Option<Found<'_>>
+    ensures value { (around : Around) → (before_jsx : _) → spec.Steps (λ _ t rest. is_end_token t rest) (In_end ∷ around) before_jsx (chars text.now) (option_map spec.next_of result) }
+    ensures shorter { IfSome result (λ f. length f.rest.now < length text.now) }
+{
     let Some((c, more)) = split_first(text) else {
         return None;
     };
@@ -247,40 +331,52 @@ fn end_token(text: &str) -> Option<Found<'_>> {
     None
 }
 
-/// A token between the tags of an element: a run of text, a `{`, or a `<` with what belongs to it.
-fn child_token(text: &str) -> Option<Found<'_>> {
-    if begins_with(Class::Child, text) {
-        return Some(plain(Kind::JsxText, after_run(Class::Child, text)));
+fn child_change(sign: &[u8]) -> Change
+    ensures { result ≡ spec.child_change sign.now }
+{
+    if is_same(sign, b"{") {
+        return Change::Enter(Region::Braces);
     }
-    let sign = sign_at(Signs::Child, text);
-    if sign.is_empty() {
-        return if begins_with(Class::Is('<'), text) {
-            Some(begin(text))
-        } else {
-            None
-        };
+    if is_same(sign, b"</") {
+        return Change::Turn(Region::End);
     }
-    let change = if is_same(sign, b"{") {
-        Change::Enter(Region::Braces)
-    } else if is_same(sign, b"</") {
-        Change::Turn(Region::End)
+    Change::Leave
+}
+
+/// A token between tags that is no text, whose first character is `first`: a `{`, or a `<` with what belongs to it.
+fn child_sign<'a>(first: char, text: &str, more: &'a str) -> Option<Found<'a>>
+    ensures value { chars text.now ≡ first ∷ chars more.now → option_map spec.next_of result ≡ spec.child_sign_next first (chars more.now) (chars text.now) }
+    ensures shorter { IfSome result (λ f. length f.rest.now ≤ length more.now) }
+{
+    if let Some((sign, rest)) = sign_of(Signs::Child, text, more) {
+        return Some(punct(sign, rest, child_change(sign)));
+    }
+    if first == '<' {
+        Some(begin(more))
     } else {
-        Change::Leave
+        None
+    }
+}
+
+/// A token between the tags of an element.
+fn child_token(text: &str) -> Option<Found<'_>>
+    ensures value { (around : Around) → (before_jsx : _) → spec.Steps (λ _ t rest. is_child_token t rest) (Children ∷ around) before_jsx (chars text.now) (option_map spec.next_of result) }
+    ensures shorter { IfSome result (λ f. length f.rest.now < length text.now) }
+{
+    let Some((c, more)) = split_first(text) else {
+        return None;
     };
-    Some(Found {
-        kind: Kind::Punct,
-        rest: skip(sign.len(), text),
-        change,
-        before_jsx: is_before_jsx(sign),
-    })
+    if Class::Child.has(c) {
+        return Some(plain(Kind::JsxText, after_run(Class::Child, more)));
+    }
+    child_sign(c, text, more)
 }
 
 /// The token at the front of a text, in the innermost region around it.
-pub(crate) fn next_token(
-    text: &str,
-    region: Option<Region>,
-    before_jsx: bool,
-) -> Option<Found<'_>> {
+pub(crate) fn next_token(text: &str, region: Option<Region>, before_jsx: bool) -> Option<Found<'_>>
+    ensures value { (around : Around) → innermost around ≡ option_map region_of region → spec.Steps (is_token around) around before_jsx (chars text.now) (option_map spec.next_of result) }
+    ensures shorter { IfSome result (λ f. length f.rest.now < length text.now) }
+{
     match region {
         None | Some(Region::Braces) => code_token(text, false, before_jsx),
         Some(Region::Hole) => code_token(text, true, before_jsx),

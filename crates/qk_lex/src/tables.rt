@@ -68,8 +68,6 @@ const TAG_SIGNS: [&[u8]; 4] = [b"=", b"{", b">", b"/>"];
 
 const CHILD_SIGNS: [&[u8]; 3] = [b"{", b"</", b"</>"];
 
-const BEGIN_SIGNS: [&[u8]; 2] = [b"<", b"<>"];
-
 /// The punctuators after which a `<` of code begins JSX.
 const BEFORE_JSX: [&[u8]; 11] = [
     b"(", b",", b"=", b"=>", b"?", b":", b"&&", b"||", b"??", b"{", b"[",
@@ -81,7 +79,6 @@ pub(crate) enum Signs {
     Code,
     Tag,
     Child,
-    Begin,
 }
 
 pub(crate) fn is_same(a: &[u8], b: &[u8]) -> bool
@@ -144,7 +141,6 @@ fn table_of(signs: Signs) -> &'static [&'static [u8]]
         Signs::Code => &CODE_SIGNS,
         Signs::Tag => &TAG_SIGNS,
         Signs::Child => &CHILD_SIGNS,
-        Signs::Begin => &BEGIN_SIGNS,
     }
 }
 
