@@ -5,3 +5,5 @@ pub mod QuoteLemmas
 pub mod BytesLemmas
 pub mod TableLemmas
 pub mod RegionLemmas
+pub mod CodeSteps
+pub mod TagSteps

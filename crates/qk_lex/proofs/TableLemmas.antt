@@ -39,8 +39,8 @@ longest_best [] best text = inl refl
 longest_best (s ∷ ss) best text = elim (either_way (is_front s text && nat_lt (length best) (length s))) [
   | inl h ↦ elim (longest_best ss (if is_front s text && nat_lt (length best) (length s) then s else best) text) [
     | inl e ↦
-      let is : longest_after best (s ∷ ss) text ≡ s = e ∙ if_true s best h in
-      inr (or_left _ _ (ap (λ x. same x s) is ∙ same_refl s), ap (λ x. is_front x text) is ∙ left (is_front s text) _ h)
+        let is : longest_after best (s ∷ ss) text ≡ s = e ∙ if_true s best h in
+        inr (or_left _ _ (ap (λ x. same x s) is ∙ same_refl s), ap (λ x. is_front x text) is ∙ left (is_front s text) _ h)
     | inr f ↦ inr (or_true _ _ f.0, f.1)
   ]
   | inr h ↦ elim (longest_best ss (if is_front s text && nat_lt (length best) (length s) then s else best) text) [
@@ -74,8 +74,8 @@ pub longest_is_sign : (signs : List Characters) (text : Characters) → (length 
 longest_is_sign signs text h = elim (longest_best signs [] text) [
   | inl e ↦ absurd (false≢true (sym h ∙ ap (λ x. length x == 0) e))
   | inr f ↦
-    let split = front_splits (longest_after [] signs text) text f.1 in
-    (both _ _ f.0 (ap (λ t. same (longest_after [] signs t) (longest_after [] signs text)) split ∙ same_refl (longest_after [] signs text)), split)
+      let split = front_splits (longest_after [] signs text) text f.1 in
+      (both _ _ f.0 (ap (λ t. same (longest_after [] signs t) (longest_after [] signs text)) split ∙ same_refl (longest_after [] signs text)), split)
 ]
 
 -- where there is none, none stands there

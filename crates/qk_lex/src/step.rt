@@ -1,7 +1,7 @@
 // The token at the front of a text.
-ghost use Rattle.std.specs.Prelude.{◌≡◌, ◌<◌, ◌≤◌, ◌-◌, ◌==◌, ℕ, false, true, ◌∷◌, length, chars, IfSome};
+ghost use Rattle.std.specs.Prelude.{◌≡◌, ◌<◌, ◌≤◌, ◌-◌, ◌==◌, ◌&&◌, codes, ℕ, false, true, ◌∷◌, length, chars, IfSome};
 ghost use Rattle.std.specs.Option.{option_map};
-ghost use Rattle.qk_ast.specs.Characters.{is_digit, continues_name, run, after_run};
+ghost use Rattle.qk_ast.specs.Characters.{has, is_digit, continues_name, run, after_run};
 ghost use Rattle.qk_ast.specs.Tokens.{Around, is_tag_token, is_end_token, is_child_token, In_tag, In_end, Children, is_token};
 ghost use Rattle.qk_ast.specs.Tokens as tokens;
 ghost use Rattle.qk_lex.specs.Quotes.{edge_of};
@@ -214,6 +214,27 @@ fn code_sign<'a>(text: &str, more: &'a str) -> Option<Found<'a>>
     Some(punct(sign, rest, code_change(sign)))
 }
 
+fn is_quote(c: char) -> bool
+    ensures value { result ≡ has c (codes "'\"") }
+    ensures no_backslash { result ≡ true → (c == 92) ≡ false }
+{
+    c == '\'' || c == '"'
+}
+
+/// Whether the character, in a template's hole or not, goes on with the template.
+fn goes_on(c: char, in_hole: bool) -> bool
+    ensures { result ≡ ((c == 125) && in_hole) }
+{
+    c == '}' && in_hole
+}
+
+/// Whether the character begins JSX in code, where a `<` does or not.
+fn begins_jsx(c: char, before_jsx: bool) -> bool
+    ensures { result ≡ ((c == 60) && before_jsx) }
+{
+    c == '<' && before_jsx
+}
+
 /// A token of code. In a template's hole a `}` goes on with the template.
 fn code_token(text: &str, in_hole: bool, before_jsx: bool) -> Option<Found<'_>>
     ensures value { spec.CodeSteps in_hole before_jsx (chars text.now) (option_map spec.next_of result) }
@@ -228,16 +249,16 @@ fn code_token(text: &str, in_hole: bool, before_jsx: bool) -> Option<Found<'_>>
     if is_digit(c) {
         return int(c, text, more);
     }
-    if c == '\'' || c == '"' {
+    if is_quote(c) {
         return quoted(c, more);
     }
     if c == '`' {
         return template(Edge::Backquote, more);
     }
-    if c == '}' && in_hole {
+    if goes_on(c, in_hole) {
         return template(Edge::Hole, more);
     }
-    if c == '<' && before_jsx {
+    if begins_jsx(c, before_jsx) {
         return Some(begin(more));
     }
     code_sign(text, more)
@@ -303,7 +324,7 @@ fn tag_token(text: &str) -> Option<Found<'_>>
     if is_letter(c) {
         return Some(plain(Kind::Name, after_tag_name(more)));
     }
-    if c == '\'' || c == '"' {
+    if is_quote(c) {
         return attribute_text(c, more);
     }
     tag_sign(text, more)
