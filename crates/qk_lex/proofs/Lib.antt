@@ -7,3 +7,5 @@ pub mod TableLemmas
 pub mod RegionLemmas
 pub mod CodeSteps
 pub mod TagSteps
+pub mod Lifts
+pub mod ReadingLemmas

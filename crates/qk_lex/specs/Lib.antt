@@ -4,3 +4,4 @@ pub mod Quotes
 pub mod Tables
 pub mod Around_place
 pub mod Steps
+pub mod Reading

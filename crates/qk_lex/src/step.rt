@@ -1,5 +1,5 @@
 // The token at the front of a text.
-ghost use Rattle.std.specs.Prelude.{◌≡◌, ◌<◌, ◌≤◌, ◌-◌, ◌==◌, ◌&&◌, codes, ℕ, false, true, ◌∷◌, length, chars, IfSome};
+ghost use Rattle.std.specs.Prelude.{◌≡◌, ◌<◌, ◌≤◌, ◌-◌, ◌==◌, ◌&&◌, codes, ℕ, false, true, ◌∷◌, length, chars, IfSome, Some};
 ghost use Rattle.std.specs.Option.{option_map};
 ghost use Rattle.qk_ast.specs.Characters.{has, is_digit, continues_name, run, after_run};
 ghost use Rattle.qk_ast.specs.Tokens.{Around, is_tag_token, is_end_token, is_child_token, In_tag, In_end, Children, is_token};
@@ -393,16 +393,26 @@ fn child_token(text: &str) -> Option<Found<'_>>
     child_sign(c, text, more)
 }
 
+fn token_in(text: &str, region: Region, before_jsx: bool) -> Option<Found<'_>>
+    ensures value { (around : Around) → innermost around ≡ Some (region_of region) → spec.Steps (is_token around) around before_jsx (chars text.now) (option_map spec.next_of result) }
+    ensures shorter { IfSome result (λ f. length f.rest.now < length text.now) }
+{
+    match region {
+        Region::Braces => code_token(text, false, before_jsx),
+        Region::Hole => code_token(text, true, before_jsx),
+        Region::Tag => tag_token(text),
+        Region::End => end_token(text),
+        Region::Children => child_token(text),
+    }
+}
+
 /// The token at the front of a text, in the innermost region around it.
 pub(crate) fn next_token(text: &str, region: Option<Region>, before_jsx: bool) -> Option<Found<'_>>
     ensures value { (around : Around) → innermost around ≡ option_map region_of region → spec.Steps (is_token around) around before_jsx (chars text.now) (option_map spec.next_of result) }
     ensures shorter { IfSome result (λ f. length f.rest.now < length text.now) }
 {
     match region {
-        None | Some(Region::Braces) => code_token(text, false, before_jsx),
-        Some(Region::Hole) => code_token(text, true, before_jsx),
-        Some(Region::Tag) => tag_token(text),
-        Some(Region::End) => end_token(text),
-        Some(Region::Children) => child_token(text),
+        None => code_token(text, false, before_jsx),
+        Some(region) => token_in(text, region, before_jsx),
     }
 }
