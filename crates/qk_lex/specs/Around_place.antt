@@ -1,5 +1,5 @@
 -- The regions around a place, and what a token does to them.
-use Rattle.std.specs.Prelude.{List, [], ◌∷◌, ◌++◌, Option, Some, None}
+use Rattle.std.specs.Prelude.{Bool, true, false, List, [], ◌∷◌, ◌++◌, Option, Some, None}
 use Rattle.qk_ast.specs.Tokens as tokens
 use Rattle.qk_lex.specs.declared.regions.Region.{Region}
 use Rattle.qk_lex.specs.declared.regions.Region.TheVariants as region
@@ -24,6 +24,15 @@ around_of regions = onto regions []
 abbrev pub innermost : tokens.Around → Option tokens.Region
 innermost [] = None
 innermost (region ∷ around) = Some region
+
+-- blanks and comments stand everywhere but between the tags of an element
+abbrev pub gaps_in : Option tokens.Region → Bool
+gaps_in None = true
+gaps_in (Some tokens.Children) = false
+gaps_in (Some tokens.Braces) = true
+gaps_in (Some tokens.In_hole) = true
+gaps_in (Some tokens.In_tag) = true
+gaps_in (Some tokens.In_end) = true
 
 abbrev pub changed : Change → tokens.Around → tokens.Around
 changed change.Stay around = around
