@@ -6,7 +6,7 @@ use mathlib.Core.Logic.{◌⊎◌, inl, inr}
 use native.Mathlib.Omega.{arith}
 use Rattle.std.proofs.Common.{length-append, append_assoc}
 use Rattle.std.proofs.lemmas.Bool.{false≢true}
-use Rattle.std.proofs.lemmas.Str.{encodes-append, encodes-chars}
+use Rattle.std.proofs.lemmas.Str.{chars-nil, encodes-append, encodes-chars}
 use Rattle.qk_ast.specs.Characters.{Characters, begins_with, is_front, is_blank, has, run, after_run}
 use Rattle.qk_ast.specs.Tokens.{Token, Name, Reserved, Int, Text, Attribute, Template, Punct, Begin, JsxText, Backquote, Hole, Piece, Plain, Escaped, Four, Braced, Return, Return_feed, piece_spelling, pieces_spelling, opening, closing, Edge, spelling, Blank, Space, Line, Block, blank_spelling, gap_spelling, is_blank_of, are_blanks, is_gap, Around, Braces, In_hole, In_tag, In_end, Children, after, is_token, is_child_token, Written, End, Then, written, tokens_of, stands, Tokens, allows_jsx}
 use Rattle.qk_ast.specs.Faults.{LexicalAt, NothingBegins, around_after, last_of}
@@ -282,3 +282,55 @@ no_list (Then gap t front) (Then gap' u more) around before rest h k some stuck 
 
 pub lexical_has_none : (text : Characters) (at : ℕ) → LexicalAt text at → (list : List Token) → Tokens text list → ⊥
 lexical_has_none text at l list t = no_list l.front t.written_as [] None l.rest l.stand t.stand l.left l.stuck (l.spells ∙ sym t.spells)
+
+-- ---- what the loop over the tokens keeps
+
+-- what is found, after what was found, is what the whole text has
+abbrev pub ReadsOn : ℕ → Around → Bool → Characters → Characters → List Placed_token → Type 0
+ReadsOn total around opens rest text found = (more : List Placed_token) → Reads total around opens rest more → Reads total [] false text (found ++ more)
+
+abbrev pub StopsOn : ℕ → Around → Bool → Characters → Characters → Type 0
+StopsOn total around opens rest text = (at : ℕ) → StopsIn total around opens rest at → StopsIn total [] false text at
+
+append_none : (xs : List Placed_token) → xs ++ [] ≡ xs
+append_none [] = refl
+append_none (x ∷ xs) = ap (λ ys. x ∷ ys) (append_none xs)
+
+pub no_characters : (bytes : List ℕ) → (length bytes == 0) ≡ true → chars bytes ≡ []
+no_characters [] h = chars-nil
+no_characters (b ∷ bs) h = absurd (no_bytes (same_number (length (b ∷ bs)) 0 h))
+  where
+    no_bytes : length (b ∷ bs) ≡ 0 → ⊥
+    no_bytes k = omega (arith, k)
+
+pub some_characters : (bytes : List ℕ) → IsUtf8 bytes → (length bytes == 0) ≡ false → length (chars bytes) ≡ 0 → ⊥
+some_characters bytes u h k = go (chars bytes) refl k
+  where
+    no_length_of : (c : ℕ) (cs : Characters) → length (c ∷ cs) ≡ 0 → ⊥
+    no_length_of c cs k = omega (arith, k)
+
+    go : (cs : Characters) → chars bytes ≡ cs → length cs ≡ 0 → ⊥
+    go [] e k = false≢true (sym h ∙ ap (λ n. n == 0) (sym (size_chars bytes u) ∙ ap (λ t. size t) e))
+    go (c ∷ cs) e k = no_length_of c cs k
+
+pub finished : (total : ℕ) (around : Around) (opens : Bool) (rest text front : Characters) (found : List Placed_token) → total ≡ size text → ReadsOn total around opens rest text found → GapIn around rest front → front ≡ [] → TokensAt text found
+finished total around opens rest text front found t on g e =
+    reads_all text found total t (subst (λ xs. Reads total [] false text xs) (append_none found) (on [] (reads_end total around opens rest front g e)))
+
+pub refused_there : (total : ℕ) (around : Around) (opens : Bool) (rest text front : Characters) (at : ℕ) → total ≡ size text → StopsOn total around opens rest text → GapIn around rest front × NoBlankIn around front
+    → (length front ≡ 0 → ⊥) → Steps (is_token around) around opens front None → at + size front ≡ total → LexicalAt text at × ((list : List Token) → Tokens text list → ⊥)
+refused_there total around opens rest text front at t on g some none place =
+    let l = lexical_at text at total t (on at (stops_here total around opens rest front at g.0 g.1 some none place)) in
+    (l, lexical_has_none text at l)
+
+pub reads_on : (total : ℕ) (around : Around) (opens : Bool) (rest text front : Characters) (next : Next) (around' : Around) (found found' : List Placed_token) (start end : ℕ) → ReadsOn total around opens rest text found
+    → GapIn around rest front → Begins (is_token around) around opens front next → size rest ≤ total → start ≡ total - size front → end ≡ total - size next.rest → around' ≡ changed next.change around
+    → found' ≡ found ++ record { kind = next.kind; start = start; end = end } ∷ [] → ReadsOn total around' next.opens next.rest text found'
+reads_on total around opens rest text front next around' found found' start end on g b l s e a f = λ more r.
+    subst (λ xs. Reads total [] false text xs) (sym (ap (λ xs. xs ++ more) f ∙ append_assoc found (record { kind = next.kind; start = start; end = end } ∷ []) more))
+    (on (record { kind = next.kind; start = start; end = end } ∷ more)
+    (reads_more total around opens rest front next more start end g b l s e (subst (λ x. Reads total x next.opens next.rest more) a r)))
+
+pub stops_on : (total : ℕ) (around : Around) (opens : Bool) (rest text front : Characters) (next : Next) (around' : Around) → StopsOn total around opens rest text
+    → GapIn around rest front → Begins (is_token around) around opens front next → around' ≡ changed next.change around → StopsOn total around' next.opens next.rest text
+stops_on total around opens rest text front next around' on g b a = λ at r. on at (stops_more total around opens rest front next at g b (subst (λ x. StopsIn total x next.opens next.rest at) a r))

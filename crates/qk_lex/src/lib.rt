@@ -4,6 +4,9 @@
 //! tokens may stand at a place is decided by the regions around it and by the token before it.
 #![tactic(auto)]
 
+ghost use Rattle.std.specs.Prelude.{◌≡◌};
+ghost use Rattle.qk_lex.specs.declared.LexFault.TheVariants.{Memory};
+
 mod gap;
 mod jsx;
 mod quoted;
@@ -59,12 +62,16 @@ pub enum LexFault {
 }
 
 impl From<AllocError> for LexFault {
+    ghost from_gives = { λ _ e. e ≡ Memory };
+
     fn from(_: AllocError) -> LexFault {
         LexFault::Memory
     }
 }
 
 impl<T: Drop> From<AllocFailed<T>> for LexFault {
+    ghost from_gives = { λ _ e. e ≡ Memory };
+
     fn from(_: AllocFailed<T>) -> LexFault {
         LexFault::Memory
     }
