@@ -5,3 +5,4 @@ pub mod Tables
 pub mod Around_place
 pub mod Steps
 pub mod Reading
+pub mod Joining

@@ -16,7 +16,7 @@ mod scan;
 mod step;
 mod tables;
 
-pub use jsx::jsx_text;
+pub use jsx::{attribute_text, jsx_text};
 pub use reading::tokens;
 
 #[cfg(test)]

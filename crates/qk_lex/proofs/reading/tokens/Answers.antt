@@ -15,7 +15,7 @@ pub returns-in_default-clause-refused : goal.returns-in_default-clause-refused
 returns-in_default-clause-refused c =
     let front_size = size_chars c.past_gap-front.result.now c.past_gap-front.utf8 in
     let place : c.saturating_sub-start.result + size (chars c.past_gap-front.result.now) ≡ length c.args.text.now =
-        omega (arith, front_size, c.saturating_sub-start.ensures, c.past_gap-front.ensures.within, c.loop-front.invariant.within) in
+    omega (arith, front_size, c.saturating_sub-start.ensures, c.past_gap-front.ensures.within, c.loop-front.invariant.within) in
     refused_there (length c.args.text.now) c.loop-front.regions c.loop-front.before_jsx (chars c.loop-front.rest.now) (chars c.args.text.now) _ c.saturating_sub-start.result
     (sym (size_chars c.args.text.now c.utf8.text)) c.loop-front.invariant.stops (c.past_gap-front.ensures.gap c.loop-front.regions (sym c.innermost.ensures))
     (some_characters c.past_gap-front.result.now c.past_gap-front.utf8 (sym c.is_empty.ensures ∙ c.if-is_empty.false))
