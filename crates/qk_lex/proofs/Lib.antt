@@ -9,3 +9,4 @@ pub mod CodeSteps
 pub mod TagSteps
 pub mod Lifts
 pub mod ReadingLemmas
+pub mod JoinLemmas

@@ -1,5 +1,5 @@
 // The text between JSX tags, and the text of an attribute.
-ghost use Rattle.std.specs.Prelude.{◌≡◌, ◌≢◌, ◌<◌, ◌≤◌, ◌++◌, ◌∷◌, length, map, take, drop, chars, IfOk, IfErr, OnOk};
+ghost use Rattle.std.specs.Prelude.{◌≡◌, ◌≢◌, ◌<◌, ◌≤◌, ◌++◌, ◌∷◌, if◌then◌else◌, length, map, take, drop, chars, IfOk, IfErr, OnOk};
 ghost use Rattle.std.specs.Str.{encode_utf8_all};
 ghost use Rattle.std.specs.String.{string_bytes};
 ghost use Rattle.qk_ast.specs.Characters.{is_front};
@@ -86,6 +86,17 @@ fn append_line(joined: &mut Vec<char>, line: &[char]) -> Result<(), AllocError>
     Ok(())
 }
 
+/// A line without the spaces at its start, unless it is the first.
+fn start_of(line: &[char], first: bool) -> &[char]
+    ensures { result.now ≡ (if first then line.now else definition.without_spaces_before line.now) }
+{
+    if first {
+        line
+    } else {
+        without_spaces_before(line)
+    }
+}
+
 /// The lines of a text, without the spaces around their ends, joined by one space each.
 fn joined_lines(alloc: Global, text: &[char]) -> Result<Vec<char>, AllocError>
     ensures { IfOk result (λ v. v.items ≡ definition.joined (definition.trimmed (definition.lines text.now))) }
@@ -96,25 +107,11 @@ fn joined_lines(alloc: Global, text: &[char]) -> Result<Vec<char>, AllocError>
     loop {
         let end = line_end(rest);
         if end == rest.len() {
-            append_line(
-                &mut joined,
-                if first {
-                    rest
-                } else {
-                    without_spaces_before(rest)
-                },
-            )?;
+            append_line(&mut joined, start_of(rest, first))?;
             return Ok(joined);
         }
-        let line = without_spaces_after(without_return(&rest[..end]));
-        append_line(
-            &mut joined,
-            if first {
-                line
-            } else {
-                without_spaces_before(line)
-            },
-        )?;
+        let start = start_of(without_return(&rest[..end]), first);
+        append_line(&mut joined, without_spaces_after(start))?;
         rest = &rest[end + 1..];
         first = false;
     }
