@@ -16,10 +16,10 @@ use Rattle.qk_lex.proofs.Choices.{either_way, both, not_true, same_number, numbe
 
 -- ---- the last character of a line
 
-pub last_split : (xs : Characters) (n : ℕ) → n < length xs → take (suc n) xs ≡ take n xs ++ get_or xs n 0 ∷ []
-last_split [] n h = absurd (omega (arith, h))
-last_split (x ∷ xs) zero h = refl
-last_split (x ∷ xs) (suc n) h = ap (λ t. x ∷ t) (last_split xs n (omega (arith, h)))
+pub last_split : (xs : Characters) (n d : ℕ) → n < length xs → take (suc n) xs ≡ take n xs ++ get_or xs n d ∷ []
+last_split [] n d h = absurd (omega (arith, h))
+last_split (x ∷ xs) zero d h = refl
+last_split (x ∷ xs) (suc n) d h = ap (λ t. x ∷ t) (last_split xs n d (omega (arith, h)))
 
 all_taken : (xs : Characters) → take (length xs) xs ≡ xs
 all_taken [] = refl
@@ -37,13 +37,19 @@ others_stay : (xs : Characters) (c : ℕ) → (c == 32) ≡ false → without_sp
 others_stay [] c h = if_false _ _ h
 others_stay (x ∷ xs) c h = ap (unless_blank x) (others_stay xs c h) ∙ before_last x xs c
 
-pub space_last : (xs : Characters) (n m : ℕ) → n ≡ suc m → m < length xs → get_or xs m 0 ≡ 32 → without_spaces_after (take n xs) ≡ without_spaces_after (take m xs)
-space_last xs n m e h k = ap (λ i. without_spaces_after (take i xs)) e ∙ (ap without_spaces_after (last_split xs m h ∙ ap (λ c. take m xs ++ c ∷ []) k) ∙ spaces_go (take m xs))
+-- the last of so many characters
+split_at : (xs : Characters) (n x : ℕ) → 0 < n → n ≤ length xs → x ≡ get_or xs (n - 1) x → take n xs ≡ take (n - 1) xs ++ x ∷ []
+split_at xs n x h k e =
+    let one : n ≡ suc (n - 1) = omega (arith, h) in
+    ap (λ i. take i xs) one ∙ (last_split xs (n - 1) x (omega (arith, h, k)) ∙ ap (λ c. take (n - 1) xs ++ c ∷ []) (sym e))
 
-pub other_last : (xs : Characters) (n m : ℕ) → n ≡ suc m → m < length xs → (get_or xs m 0 ≡ 32 → ⊥) → without_spaces_after (take n xs) ≡ take n xs
-other_last xs n m e h k =
-    ap (λ i. without_spaces_after (take i xs)) e
-    ∙ (ap without_spaces_after (last_split xs m h) ∙ (others_stay (take m xs) (get_or xs m 0) (number_differs _ 32 k) ∙ (sym (last_split xs m h) ∙ ap (λ i. take i xs) (sym e))))
+pub space_last : (xs : Characters) (n x : ℕ) → 0 < n → n ≤ length xs → x ≡ get_or xs (n - 1) x → x ≡ 32 → without_spaces_after (take (n - 1) xs) ≡ without_spaces_after (take n xs)
+space_last xs n x h k e s = sym (ap without_spaces_after (split_at xs n x h k e ∙ ap (λ c. take (n - 1) xs ++ c ∷ []) s) ∙ spaces_go (take (n - 1) xs))
+
+pub other_last : (xs : Characters) (n x : ℕ) → 0 < n → n ≤ length xs → x ≡ get_or xs (n - 1) x → (x ≡ 32 → ⊥) → take n xs ≡ without_spaces_after (take n xs)
+other_last xs n x h k e s =
+    let split = split_at xs n x h k e in
+    split ∙ (sym (others_stay (take (n - 1) xs) x (number_differs x 32 s)) ∙ ap without_spaces_after (sym split))
 
 return_goes : (xs : Characters) → drop_return (xs ++ 13 ∷ []) ≡ xs
 return_goes [] = refl
@@ -55,15 +61,16 @@ no_return_stays [] c h = if_false _ _ h
 no_return_stays (x ∷ []) c h = ap (λ t. x ∷ t) (if_false _ _ h)
 no_return_stays (x ∷ y ∷ ys) c h = ap (λ t. x ∷ t) (no_return_stays (y ∷ ys) c h)
 
-pub return_last : (xs : Characters) (m : ℕ) → length xs ≡ suc m → get_or xs m 0 ≡ 13 → take m xs ≡ drop_return xs
-return_last xs m e k =
-    let whole : xs ≡ take m xs ++ 13 ∷ [] = sym (all_taken xs) ∙ (ap (λ i. take i xs) e ∙ (last_split xs m (omega (arith, e)) ∙ ap (λ c. take m xs ++ c ∷ []) k)) in
-    sym (ap drop_return whole ∙ return_goes (take m xs))
+pub return_last : (xs : Characters) (x : ℕ) → 0 < length xs → x ≡ get_or xs (length xs - 1) x → x ≡ 13 → take (length xs - 1) xs ≡ drop_return xs
+return_last xs x h e k =
+    let whole : xs ≡ take (length xs - 1) xs ++ 13 ∷ [] =
+    sym (all_taken xs) ∙ (split_at xs (length xs) x h (omega arith) e ∙ ap (λ c. take (length xs - 1) xs ++ c ∷ []) k) in
+    sym (ap drop_return whole ∙ return_goes (take (length xs - 1) xs))
 
-pub no_return_last : (xs : Characters) (m : ℕ) → length xs ≡ suc m → (get_or xs m 0 ≡ 13 → ⊥) → xs ≡ drop_return xs
-no_return_last xs m e k =
-    let whole : xs ≡ take m xs ++ get_or xs m 0 ∷ [] = sym (all_taken xs) ∙ (ap (λ i. take i xs) e ∙ last_split xs m (omega (arith, e))) in
-    whole ∙ (sym (no_return_stays (take m xs) (get_or xs m 0) (number_differs _ 13 k)) ∙ ap drop_return (sym whole))
+pub no_return_last : (xs : Characters) (x : ℕ) → 0 < length xs → x ≡ get_or xs (length xs - 1) x → (x ≡ 13 → ⊥) → xs ≡ drop_return xs
+no_return_last xs x h e k =
+    let whole : xs ≡ take (length xs - 1) xs ++ x ∷ [] = sym (all_taken xs) ∙ split_at xs (length xs) x h (omega arith) e in
+    whole ∙ (sym (no_return_stays (take (length xs - 1) xs) x (number_differs x 13 k)) ∙ ap drop_return (sym whole))
 
 -- ---- lines
 
@@ -192,15 +199,21 @@ joined_last out rest line first all out' e l o k =
     sym (ap (λ ls. joined_on out (trimmed_on first ls)) (one_line rest e) ∙ (ap (joined_on out) (trimmed_last first rest)
     ∙ (on_line out (if first then rest else without_spaces_before rest) [] ∙ (on_end (appended out (if first then rest else without_spaces_before rest)) ∙ (ap (appended out) (sym l) ∙ sym o))))) ∙ k
 
-pub joined_more : (out rest start line : Characters) (n : ℕ) (first : Bool) (all out' : Characters) → n ≡ line_end rest → n < length rest → start ≡ (if first then drop_return (take n rest) else without_spaces_before (drop_return (take n rest)))
-    → line ≡ without_spaces_after start → out' ≡ appended out line → joined_on out (trimmed_on first (lines rest)) ≡ all → joined_on out' (trimmed_on false (lines (drop (n + 1) rest))) ≡ all
-joined_more out rest start line n first all out' e h s l o k =
+drop_one : (n : ℕ) (xs : Characters) → drop 1 (drop n xs) ≡ drop (n + 1) xs
+drop_one zero xs = refl
+drop_one (suc n) [] = ap (λ m. drop m []) (sym (plus_one n))
+drop_one (suc n) (x ∷ xs) = drop_one n xs ∙ ap (λ m. drop m (x ∷ xs)) (sym (plus_one n))
+
+pub joined_more : (out rest start line more : Characters) (n : ℕ) (first : Bool) (all out' : Characters) → n ≡ line_end rest → n < length rest → start ≡ (if first then drop_return (take n rest) else without_spaces_before (drop_return (take n rest)))
+    → line ≡ without_spaces_after start → out' ≡ appended out line → more ≡ drop 1 (drop n rest) → joined_on out (trimmed_on first (lines rest)) ≡ all → joined_on out' (trimmed_on false (lines more)) ≡ all
+joined_more out rest start line more n first all out' e h s l o m k =
     let split : lines rest ≡ drop_return (take n rest) ∷ lines (drop (n + 1) rest) =
     first_line rest (subst (λ m. m < length rest) e h) ∙ ap (λ m. drop_return (take m rest) ∷ lines (drop (m + 1) rest)) (sym e) in
     let line_is : line ≡ without_spaces_after (if first then drop_return (take n rest) else without_spaces_before (drop_return (take n rest))) = l ∙ ap without_spaces_after s in
-    ap (λ x. joined_on x (trimmed_on false (lines (drop (n + 1) rest)))) (o ∙ ap (appended out) line_is)
+    ap (λ x. joined_on x (trimmed_on false (lines more))) (o ∙ ap (appended out) line_is)
+    ∙ (ap (λ t. joined_on (appended out (without_spaces_after (if first then drop_return (take n rest) else without_spaces_before (drop_return (take n rest))))) (trimmed_on false (lines t))) (m ∙ drop_one n rest)
     ∙ (sym (ap (λ ls. joined_on out (trimmed_on first ls)) split ∙ (ap (joined_on out) (trimmed_line first (drop_return (take n rest)) (drop (n + 1) rest))
-    ∙ on_line out (without_spaces_after (if first then drop_return (take n rest) else without_spaces_before (drop_return (take n rest)))) (trimmed_on false (lines (drop (n + 1) rest))))) ∙ k)
+    ∙ on_line out (without_spaces_after (if first then drop_return (take n rest) else without_spaces_before (drop_return (take n rest)))) (trimmed_on false (lines (drop (n + 1) rest))))) ∙ k))
 
 -- ---- entities
 
@@ -230,3 +243,7 @@ pub decoded_on : (out out' : List ℕ) (rest more : Characters) (c count : ℕ) 
 decoded_on out out' rest more c count all h p o m k =
     ap (λ x. x ++ encode_utf8_all (decoded more)) o ∙ (append_assoc out (encode_utf8 c) (encode_utf8_all (decoded more))
     ∙ (ap (λ t. out ++ encode_utf8_all t) (ap (λ t. c ∷ decoded t) m ∙ (ap (λ (x : ℕ × ℕ). x.0 ∷ decoded (drop x.1 rest)) p ∙ sym (decoded_first rest h))) ∙ k))
+
+pub some_length : (xs : Characters) → (length xs == 0) ≡ false → 0 < length xs
+some_length [] h = absurd (false≢true (sym h))
+some_length (x ∷ xs) h = omega arith

@@ -1,5 +1,5 @@
 // The text between JSX tags, and the text of an attribute.
-ghost use Rattle.std.specs.Prelude.{◌≡◌, ◌≢◌, ◌<◌, ◌≤◌, ◌++◌, ◌∷◌, if◌then◌else◌, length, map, take, drop, chars, IfOk, IfErr, OnOk};
+ghost use Rattle.std.specs.Prelude.{◌≡◌, ◌≢◌, ◌<◌, ◌≤◌, ◌-◌, ◌++◌, ◌∷◌, if◌then◌else◌, length, map, take, drop, chars, IfOk, IfErr, OnOk};
 ghost use Rattle.std.specs.Str.{encode_utf8_all};
 ghost use Rattle.std.specs.String.{string_bytes};
 ghost use Rattle.qk_ast.specs.Characters.{is_front};
@@ -60,16 +60,14 @@ fn line_end(text: &[char]) -> usize
 fn without_return(line: &[char]) -> &[char]
     ensures { result.now ≡ drop_return line.now }
 {
-    match line.len() {
-        0 => line,
-        n => {
-            if line[n - 1] == '\r' {
-                &line[..n - 1]
-            } else {
-                line
-            }
-        }
+    let count = line.len();
+    if count == 0 {
+        return line;
     }
+    if line[count - 1] == '\r' {
+        return &line[..count - 1];
+    }
+    line
 }
 
 /// One line more, after a space where it isn't the first that has something.
@@ -84,6 +82,14 @@ fn append_line(joined: &mut Vec<char>, line: &[char]) -> Result<(), AllocError>
     }
     joined.extend_from_slice(line)?;
     Ok(())
+}
+
+/// What follows so many characters.
+fn after(text: &[char], count: usize) -> &[char]
+    ensures value { result.now ≡ drop count text.now }
+    ensures len { length result.now ≡ length text.now - count }
+{
+    &text[count.min(text.len())..]
 }
 
 /// A line without the spaces at its start, unless it is the first.
@@ -112,7 +118,7 @@ fn joined_lines(alloc: Global, text: &[char]) -> Result<Vec<char>, AllocError>
         }
         let start = start_of(without_return(&rest[..end]), first);
         append_line(&mut joined, without_spaces_after(start))?;
-        rest = &rest[end + 1..];
+        rest = after(after(rest, end), 1);
         first = false;
     }
 }
@@ -141,13 +147,6 @@ fn first_decoded(text: &[char]) -> (char, usize)
     (text[0], 1)
 }
 
-/// What follows so many characters.
-fn after(text: &[char], count: usize) -> &[char]
-    ensures { result.now ≡ drop count text.now }
-{
-    &text[count.min(text.len())..]
-}
-
 /// The text with each of the five entities as its character.
 fn decoded_text(alloc: Global, text: &[char]) -> Result<String, AllocError>
     ensures { IfOk result (λ s. string_bytes s ≡ encode_utf8_all (definition.decoded text.now)) }
@@ -162,13 +161,25 @@ fn decoded_text(alloc: Global, text: &[char]) -> Result<String, AllocError>
     Ok(decoded)
 }
 
+fn characters_of(alloc: Global, raw: &str) -> Result<Vec<char>, AllocError>
+    ensures { IfOk result (λ v. v.items ≡ chars raw.now) }
+{
+    raw.chars().collect(alloc)
+}
+
+fn untabbed_characters(alloc: Global, raw: &str) -> Result<Vec<char>, AllocError>
+    ensures { IfOk result (λ v. v.items ≡ map definition.untabbed (chars raw.now)) }
+{
+    raw.chars().map(untabbed).collect(alloc)
+}
+
 /// The text that a `JsxText` token stands for: a tab counts as a space, the spaces at the ends of its lines go, but not those that it begins and
 /// ends with, the lines that aren't empty are joined by one space, and the five entities are decoded. It fails only for want of memory.
 pub fn jsx_text(alloc: Global, raw: &str) -> Result<String, LexFault>
     ensures text { IfOk result (λ s. string_bytes s ≡ encode_utf8_all (definition.jsx_text (chars raw.now))) }
     ensures memory { IfErr result (λ fault. fault ≡ Memory) }
 {
-    let characters: Vec<char> = raw.chars().map(untabbed).collect(alloc)?;
+    let characters = untabbed_characters(alloc, raw)?;
     let joined = joined_lines(alloc, characters.as_slice())?;
     Ok(decoded_text(alloc, joined.as_slice())?)
 }
@@ -178,6 +189,6 @@ pub fn attribute_text(alloc: Global, raw: &str) -> Result<String, LexFault>
     ensures text { IfOk result (λ s. string_bytes s ≡ encode_utf8_all (definition.decoded (chars raw.now))) }
     ensures memory { IfErr result (λ fault. fault ≡ Memory) }
 {
-    let characters: Vec<char> = raw.chars().collect(alloc)?;
+    let characters = characters_of(alloc, raw)?;
     Ok(decoded_text(alloc, characters.as_slice())?)
 }
