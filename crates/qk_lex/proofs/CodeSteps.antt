@@ -41,6 +41,7 @@ word_there around opens c more h = elim (either_way (is_one_of (c ∷ run contin
     spells = ap (λ t. c ∷ t) (run_whole continues_name more);
     stands = λ before k. (r, not_true _ (run_ends continues_name more));
     has_kind = refl;
+    has_jsx = refl;
     leads = refl;
     opens_next = refl;
   }
@@ -49,6 +50,7 @@ word_there around opens c more h = elim (either_way (is_one_of (c ∷ run contin
     spells = ap (λ t. c ∷ t) (run_whole continues_name more);
     stands = λ before k. (both _ _ h (run_every continues_name more), not_true _ r, not_true _ (run_ends continues_name more));
     has_kind = refl;
+    has_jsx = refl;
     leads = refl;
     opens_next = refl;
   }
@@ -181,6 +183,7 @@ int_found hole opens c more d zero ends fits = λ around ic ih. record {
   spells = ap (λ t. c ∷ t) (run_whole is_digit more);
   stands = λ before k. (both _ _ (both _ _ (both _ _ d (run_every is_digit more)) no_zero_first) within, not_true _ ends);
   has_kind = refl;
+  has_jsx = refl;
   leads = refl;
   opens_next = refl;
 }
@@ -257,6 +260,7 @@ quoted_by hole opens q more h (Some next) found = λ around ic ih. record {
   spells = ap (λ t. q ∷ t) found.0.2;
   stands = λ before k. (h, found.0.1);
   has_kind = sym (ap (λ n. n.kind) found.1);
+  has_jsx = sym (ap (λ n. n.jsx) found.1);
   leads = sym (ap (λ n. changed n.change around) found.1);
   opens_next = sym (ap (λ n. n.opens) found.1);
 }
@@ -289,6 +293,7 @@ template_by hole opens more (Some next) found = λ around ic ih. record {
   spells = ap (λ t. 96 ∷ t) found.1.2;
   stands = λ before k. found.1.1;
   has_kind = sym (ap (λ n. n.kind) found.2);
+  has_jsx = sym (ap (λ n. n.jsx) found.2);
   leads = part_leads around Backquote found.1.0 found.0 ∙ sym (ap (λ n. changed n.change around) found.2);
   opens_next = sym (ap (λ n. n.opens) found.2);
 }
@@ -307,6 +312,7 @@ hole_by opens more (Some next) found = λ around ic ih. record {
   spells = ap (λ t. 125 ∷ t) found.1.2;
   stands = λ before k. (ih, found.1.1);
   has_kind = sym (ap (λ n. n.kind) found.2);
+  has_jsx = sym (ap (λ n. n.jsx) found.2);
   leads = part_leads around Hole found.1.0 found.0 ∙ sym (ap (λ n. changed n.change around) found.2);
   opens_next = sym (ap (λ n. n.opens) found.2);
 }
@@ -335,14 +341,14 @@ no_char c (d ∷ ds) h = elim (which (d == c) (Some ds) None None h) [
 abbrev pub BeginsBy : Characters → Next → Type 0
 BeginsBy more next = (sign : Characters) × (sign ++ next.rest ≡ 60 ∷ more) × (is_sign begin_signs sign next.rest ≡ true) × (kind.Punct ≡ next.kind)
     × ((around : Around) → after around (Begin sign) ≡ changed next.change around) × (false ≡ next.opens)
-    × ((sign ≡ codes "<") × (next.rest ≡ more) ⊎ (sign ≡ codes "<>"))
+    × ((sign ≡ codes "<") × (next.rest ≡ more) ⊎ (sign ≡ codes "<>")) × (true ≡ next.jsx)
 
 begins_by : (more : Characters) (o : Option Characters) → after_char 62 more ≡ o → BeginsBy more (begin_by more o)
-begins_by more None h = (codes "<", refl, alone, refl, (λ around. refl), refl, inl (refl, refl))
+begins_by more None h = (codes "<", refl, alone, refl, (λ around. refl), refl, inl (refl, refl), refl)
   where
     alone : is_sign begin_signs (codes "<") more ≡ true
     alone = ap (λ b. same (if b && nat_lt 1 2 then codes "<>" else codes "<") (codes "<")) (no_char 62 more h)
-begins_by more (Some rest) h = (codes "<>", ap (λ t. 60 ∷ t) (sym (char_found 62 more rest h)), refl, refl, (λ around. refl), refl, inr refl)
+begins_by more (Some rest) h = (codes "<>", ap (λ t. 60 ∷ t) (sym (char_found 62 more rest h)), refl, refl, (λ around. refl), refl, inr refl, refl)
 
 pub begins_as : (more : Characters) → BeginsBy more (begin_next more)
 begins_as more = begins_by more (after_char 62 more) refl
@@ -355,6 +361,7 @@ begin_steps hole opens text c more next e h k = λ around ic ih.
       spells = b.1 ∙ sym (e ∙ ap (λ d. d ∷ more) (same_number c 60 (left (c == 60) opens h)));
       stands = λ before o. (o ∙ right (c == 60) opens h, b.2);
       has_kind = b.3;
+      has_jsx = b.7;
       leads = b.4 around;
       opens_next = b.5;
     }
@@ -477,6 +484,7 @@ sign_found hole opens text only z w = λ around ic ih.
             (not_true _ (no_jsx around before (longest_code text) (rest_code text) text (only around ih before ob) is.1)),
       );
       has_kind = refl;
+      has_jsx = refl;
       leads = code_leads around (longest_code text) ic (not_closing_any around ih only is.1);
       opens_next = refl;
     }

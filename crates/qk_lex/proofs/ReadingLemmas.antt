@@ -19,7 +19,7 @@ use Rattle.qk_lex.specs.declared.Kind.{Kind}
 use Rattle.qk_lex.specs.declared.Kind.TheVariants as kind
 use Rattle.qk_lex.specs.Gaps.{NoBlank, Gap}
 use Rattle.qk_lex.specs.Around_place.{changed, innermost, gaps_in}
-use Rattle.qk_lex.specs.Steps.{Next, plain, kind_of, Begins, Steps}
+use Rattle.qk_lex.specs.Steps.{Next, plain, kind_of, is_jsx, Begins, Steps}
 use Rattle.qk_lex.specs.Reading.{size, placed, TokensAt, GapIn, NoBlankIn, Reads, StopsIn}
 use Rattle.qk_lex.proofs.Choices.{either_way, same_number}
 use Rattle.qk_lex.proofs.TagSteps.{text_steps}
@@ -116,15 +116,16 @@ no_gap_in (Children ∷ around) text h = (record { gap = []; spells = refl; is =
 
 -- ---- one token more
 
-token_placed : (k k' : Kind) (s s' e e' : ℕ) (more more' : List Placed_token) → k ≡ k' → s ≡ s' → e ≡ e' → more ≡ more'
-    → record { kind = k; start = s; end = e } ∷ more ≡ record { kind = k'; start = s'; end = e' } ∷ more'
-token_placed k k' s s' e e' more more' a b c d =
-    ap (λ (x : Kind). record { kind = x; start = s; end = e } ∷ more) a ∙ (ap (λ (x : ℕ). record { kind = k'; start = x; end = e } ∷ more) b
-    ∙ (ap (λ (x : ℕ). record { kind = k'; start = s'; end = x } ∷ more) c ∙ ap (λ (x : List Placed_token). record { kind = k'; start = s'; end = e' } ∷ x) d))
+token_placed : (k k' : Kind) (j j' : Bool) (s s' e e' : ℕ) (more more' : List Placed_token) → k ≡ k' → j ≡ j' → s ≡ s' → e ≡ e' → more ≡ more'
+    → record { kind = k; jsx = j; start = s; end = e } ∷ more ≡ record { kind = k'; jsx = j'; start = s'; end = e' } ∷ more'
+token_placed k k' j j' s s' e e' more more' a x b c d =
+    ap (λ (y : Kind). record { kind = y; jsx = j; start = s; end = e } ∷ more) a ∙ (ap (λ (y : Bool). record { kind = k'; jsx = y; start = s; end = e } ∷ more) x
+    ∙ (ap (λ (y : ℕ). record { kind = k'; jsx = j'; start = y; end = e } ∷ more) b ∙ (ap (λ (y : ℕ). record { kind = k'; jsx = j'; start = s'; end = y } ∷ more) c
+    ∙ ap (λ (y : List Placed_token). record { kind = k'; jsx = j'; start = s'; end = e' } ∷ y) d)))
 
 pub reads_more : (total : ℕ) (around : Around) (opens : Bool) (text front : Characters) (next : Next) (found : List Placed_token) (start end : ℕ) → GapIn around text front
     → Begins (is_token around) around opens front next → size text ≤ total → start ≡ total - size front → end ≡ total - size next.rest
-    → Reads total (changed next.change around) next.opens next.rest found → Reads total around opens text (record { kind = next.kind; start = start; end = end } ∷ found)
+    → Reads total (changed next.change around) next.opens next.rest found → Reads total around opens text (record { kind = next.kind; jsx = next.jsx; start = start; end = end } ∷ found)
 reads_more total around opens text front next found start end g b l s e r = record {
   reads = λ before ob.
       let x = r.reads (Some b.token) b.opens_next in
@@ -142,7 +143,7 @@ reads_more total around opens text front next found start end g b l s e r = reco
           subst (λ t. is_token around before b.token t) (sym rest_is) (b.stands before ob),
           subst (λ a. stands a (Some b.token) x.0 []) (sym b.leads) x.2,
         ),
-        token_placed (kind_of b.token) next.kind _ start _ end _ found b.has_kind at_start at_end (ap (λ n. placed n x.0) (at_end ∙ e) ∙ x.3),
+        token_placed (kind_of b.token) next.kind (is_jsx b.token) next.jsx _ start _ end _ found b.has_kind b.has_jsx at_start at_end (ap (λ n. placed n x.0) (at_end ∙ e) ∙ x.3),
       );
 }
   where
@@ -325,10 +326,10 @@ refused_there total around opens rest text front at t on g some none place =
 
 pub reads_on : (total : ℕ) (around : Around) (opens : Bool) (rest text front : Characters) (next : Next) (around' : Around) (found found' : List Placed_token) (start end : ℕ) → ReadsOn total around opens rest text found
     → GapIn around rest front → Begins (is_token around) around opens front next → size rest ≤ total → start ≡ total - size front → end ≡ total - size next.rest → around' ≡ changed next.change around
-    → found' ≡ found ++ record { kind = next.kind; start = start; end = end } ∷ [] → ReadsOn total around' next.opens next.rest text found'
+    → found' ≡ found ++ record { kind = next.kind; jsx = next.jsx; start = start; end = end } ∷ [] → ReadsOn total around' next.opens next.rest text found'
 reads_on total around opens rest text front next around' found found' start end on g b l s e a f = λ more r.
-    subst (λ xs. Reads total [] false text xs) (sym (ap (λ xs. xs ++ more) f ∙ append_assoc found (record { kind = next.kind; start = start; end = end } ∷ []) more))
-    (on (record { kind = next.kind; start = start; end = end } ∷ more)
+    subst (λ xs. Reads total [] false text xs) (sym (ap (λ xs. xs ++ more) f ∙ append_assoc found (record { kind = next.kind; jsx = next.jsx; start = start; end = end } ∷ []) more))
+    (on (record { kind = next.kind; jsx = next.jsx; start = start; end = end } ∷ more)
     (reads_more total around opens rest front next more start end g b l s e (subst (λ x. Reads total x next.opens next.rest more) a r)))
 
 pub stops_on : (total : ℕ) (around : Around) (opens : Bool) (rest text front : Characters) (next : Next) (around' : Around) → StopsOn total around opens rest text

@@ -116,11 +116,11 @@ return_ascii : AllAscii (codes "return")
 return_ascii = ascii_word (codes "return") refl
 
 pub word_reserved : (w : Characters) (bytes : List ℕ) (rest rest' : Characters) (reserved return : Bool) → bytes ≡ encode_utf8_all w → reserved ≡ is_one_of bytes reserved_words → reserved ≡ true
-    → return ≡ same bytes (codes "return") → rest ≡ rest' → record { kind = kind.Reserved; rest = rest; change = change.Stay; opens = return } ≡ word_next w rest'
+    → return ≡ same bytes (codes "return") → rest ≡ rest' → record { kind = kind.Reserved; jsx = false; rest = rest; change = change.Stay; opens = return } ≡ word_next w rest'
 unfolding word_next
 word_reserved w bytes rest rest' reserved return e is h r k =
-    ap (λ (x : Characters). record { kind = kind.Reserved; rest = x; change = change.Stay; opens = return }) k
-    ∙ (ap (λ (b : Bool). record { kind = kind.Reserved; rest = rest'; change = change.Stay; opens = b }) (r ∙ (ap (λ t. same t (codes "return")) e ∙ same_bytes (codes "return") return_ascii w))
+    ap (λ (x : Characters). record { kind = kind.Reserved; jsx = false; rest = x; change = change.Stay; opens = return }) k
+    ∙ (ap (λ (b : Bool). record { kind = kind.Reserved; jsx = false; rest = rest'; change = change.Stay; opens = b }) (r ∙ (ap (λ t. same t (codes "return")) e ∙ same_bytes (codes "return") return_ascii w))
     ∙ sym (if_true _ _ (sym (one_of_bytes reserved_words reserved_ascii w) ∙ (ap (λ t. is_one_of t reserved_words) (sym e) ∙ (sym is ∙ h)))))
 
 pub word_plain : (w : Characters) (bytes : List ℕ) (rest rest' : Characters) (reserved : Bool) → bytes ≡ encode_utf8_all w → reserved ≡ is_one_of bytes reserved_words → reserved ≡ false

@@ -17,7 +17,7 @@ use Rattle.qk_lex.specs.declared.tables.Signs.TheVariants as signs
 use Rattle.qk_lex.specs.Scan.{after_char}
 use Rattle.qk_lex.specs.Tables.{sign_at}
 use Rattle.qk_lex.specs.Around_place.{changed}
-use Rattle.qk_lex.specs.Steps.{Next, plain, begin_next, sign_next, sign_or_none, sign_of, this_or_rest, after_tag_name, plain_or_none, attribute_next, tag_change, tag_by, tag_sign_next, child_change, child_by, child_sign_next, Begins, Steps}
+use Rattle.qk_lex.specs.Steps.{Next, plain, begin_next, sign_next, sign_or_none, sign_of, this_or_rest, after_tag_name, attribute_or_none, attribute_next, tag_change, tag_by, tag_sign_next, child_change, child_by, child_sign_next, Begins, Steps}
 use Rattle.qk_lex.proofs.Choices.{which, either_way, some_same, none_some, some_none, both, not_true, same_number, number_same, number_differs, run_whole, run_every, run_ends}
 use Rattle.qk_lex.proofs.EscapeLemmas.{char_found, char_there}
 use Rattle.qk_lex.proofs.TableLemmas.{same_refl, longest_is_sign, longest_none}
@@ -66,6 +66,7 @@ tag_name_there around opens c more h = let w = rest_found more in record {
   spells = ap (λ t. c ∷ t) w.2;
   stands = λ before k. both _ _ h w.1;
   has_kind = refl;
+  has_jsx = refl;
   leads = refl;
   opens_next = refl;
 }
@@ -76,6 +77,7 @@ end_name_there around opens c more h = let w = rest_found more in record {
   spells = ap (λ t. c ∷ t) w.2;
   stands = λ before k. both _ _ h w.1;
   has_kind = refl;
+  has_jsx = refl;
   leads = refl;
   opens_next = refl;
 }
@@ -104,7 +106,7 @@ quote_way : (q : ℕ) (more : Characters) → has q (codes "'\"") ≡ true → l
 quote_way q more h = a_quote (λ c. letter_or_quote (c ∷ more) ≡ 1) q h refl refl
 
 attribute_by : (around : Around) (opens : Bool) (q : ℕ) (more : Characters) → has q (codes "'\"") ≡ true → (o : Option Characters) → after_char q (after_run (not_quote q) more) ≡ o
-    → Steps in_tags (In_tag ∷ around) opens (q ∷ more) (plain_or_none kind.Text o)
+    → Steps in_tags (In_tag ∷ around) opens (q ∷ more) (attribute_or_none o)
 attribute_by around opens q more h None k = λ before ob t rest may e. go t rest may e
   where
     unclosed : (inside next : Characters) → every (not_quote q) inside ≡ true → inside ++ q ∷ next ≡ more → ⊥
@@ -128,6 +130,7 @@ attribute_by around opens q more h (Some rest) k = record {
   spells = ap (λ t. q ∷ t) (ap (λ t. run (not_quote q) more ++ t) (sym (char_found q (after_run (not_quote q) more) rest k)) ∙ run_whole (not_quote q) more);
   stands = λ before ob. (h, run_every (not_quote q) more);
   has_kind = refl;
+  has_jsx = refl;
   leads = refl;
   opens_next = refl;
 }
@@ -165,6 +168,7 @@ tag_sign_by around opens text way = elim (either_way (length (longest_tag text) 
         spells = is.1;
         stands = λ before ob. is.0;
         has_kind = refl;
+        has_jsx = refl;
         leads = tag_leads around (longest_tag text);
         opens_next = refl;
       }
@@ -196,12 +200,13 @@ tag_empty around opens text e = λ before ob t rest may k. (tag_begins t rest ma
 -- ---- the end of a closing tag
 
 pub end_sign_steps : (around : Around) (opens : Bool) (text : Characters) (c : ℕ) (more : Characters) → text ≡ c ∷ more → c ≡ 62
-    → Steps in_ends (In_end ∷ around) opens text (Some (record { kind = kind.Punct; rest = more; change = change.Leave; opens = false }))
+    → Steps in_ends (In_end ∷ around) opens text (Some (record { kind = kind.Punct; jsx = false; rest = more; change = change.Leave; opens = false }))
 end_sign_steps around opens text c more e h = record {
   token = Punct (codes ">");
   spells = ap (λ d. d ∷ more) (sym h) ∙ sym e;
   stands = λ before ob. refl;
   has_kind = refl;
+  has_jsx = refl;
   leads = refl;
   opens_next = refl;
 }
@@ -234,6 +239,7 @@ text_steps around opens text c more rest next e h r k =
       spells = ap (λ t. c ∷ t) (run_whole is_text more) ∙ sym e;
       stands = λ before ob. both _ _ (both _ _ (not_empty (run is_text more)) (both _ _ h (run_every is_text more))) (not_true _ (run_ends is_text more));
       has_kind = refl;
+      has_jsx = refl;
       leads = refl;
       opens_next = refl;
     }
@@ -269,6 +275,7 @@ begin_there around opens more z = let b = begins_as more in record {
   spells = b.1;
   stands = λ before ob. (b.2, not_true _ (no_slash b.0 (begin_next more).rest b.6));
   has_kind = b.3;
+  has_jsx = b.7;
   leads = b.4 (Children ∷ around);
   opens_next = b.5;
 }
@@ -316,6 +323,7 @@ child_sign_by around opens c more h = elim (either_way (length (longest_child (c
         spells = is.1;
         stands = λ before ob. is.0;
         has_kind = refl;
+        has_jsx = refl;
         leads = child_leads around (longest_child (c ∷ more)) (left (is_one_of (longest_child (c ∷ more)) child_signs) _ is.0);
         opens_next = refl;
       }

@@ -9,7 +9,7 @@ use Rattle.qk_lex.specs.declared.Token.{Token}
 use Rattle.qk_lex.specs.declared.LexFault.{LexFault}
 use Rattle.qk_lex.specs.declared.LexFault.TheVariants.{Lexical, Memory}
 use Rattle.qk_lex.specs.Gaps.{NoBlank}
-use Rattle.qk_lex.specs.Steps.{kind_of}
+use Rattle.qk_lex.specs.Steps.{kind_of, is_jsx}
 
 -- how many bytes the characters take
 abbrev pub size : Characters → ℕ
@@ -19,7 +19,7 @@ size text = length (encode_utf8_all text)
 abbrev pub placed : ℕ → Written → List Token
 placed at (End gap) = []
 placed at (Then gap token more) =
-    record { kind = kind_of token; start = at + size (gap_spelling gap []); end = at + size (gap_spelling gap []) + size (spelling token []) }
+    record { kind = kind_of token; jsx = is_jsx token; start = at + size (gap_spelling gap []); end = at + size (gap_spelling gap []) + size (spelling token []) }
     ∷ placed (at + size (gap_spelling gap []) + size (spelling token [])) more
 
 -- The text has a token list, and these are its tokens, each with its kind, its first byte and the byte after its last.

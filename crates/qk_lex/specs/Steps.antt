@@ -17,24 +17,25 @@ use Rattle.qk_lex.specs.Quotes.{Closes, Ends}
 use Rattle.qk_lex.specs.Tables.{sign_at}
 use Rattle.qk_lex.specs.Around_place.{changed}
 
--- a token's kind, what follows it, what it does to the regions, and whether a `<` of code after it begins JSX
+-- a token's kind, whether it begins JSX or is the text of an attribute, what follows it, what it does to the regions, and whether a `<` of code after it begins JSX
 pub record Next : Type 0 where
   pub kind : Kind
+  pub jsx : Bool
   pub rest : Characters
   pub change : Change
   pub opens : Bool
 
 abbrev pub next_of : Found → Next
-next_of f = record { kind = f.kind; rest = chars f.rest.now; change = f.change; opens = f.before_jsx }
+next_of f = record { kind = f.kind; jsx = f.jsx; rest = chars f.rest.now; change = f.change; opens = f.before_jsx }
 
 abbrev pub plain : Kind → Characters → Next
-plain k rest = record { kind = k; rest = rest; change = change.Stay; opens = false }
+plain k rest = record { kind = k; jsx = false; rest = rest; change = change.Stay; opens = false }
 
 -- ---- code
 
 unfoldable pub word_next : Characters → Characters → Next
 word_next word rest =
-    if is_one_of word reserved_words then record { kind = kind.Reserved; rest = rest; change = change.Stay; opens = same word (codes "return") } else plain kind.Name rest
+    if is_one_of word reserved_words then record { kind = kind.Reserved; jsx = false; rest = rest; change = change.Stay; opens = same word (codes "return") } else plain kind.Name rest
 
 -- the greatest integer that an Int may write
 abbrev pub greatest : ℕ
@@ -62,11 +63,11 @@ part_change from to = change.Stay
 
 abbrev pub PartNext : Edge → Characters → Option Next → Type 0
 PartNext from text None = Ends text None
-PartNext from text (Some next) = (to : Edge) × Ends text (Some (to, next.rest)) × (next ≡ record { kind = kind.TemplatePart; rest = next.rest; change = part_change from to; opens = false })
+PartNext from text (Some next) = (to : Edge) × Ends text (Some (to, next.rest)) × (next ≡ record { kind = kind.TemplatePart; jsx = false; rest = next.rest; change = part_change from to; opens = false })
 
 abbrev pub begin_by : Characters → Option Characters → Next
-begin_by more None = record { kind = kind.Punct; rest = more; change = change.Enter region.Tag; opens = false }
-begin_by more (Some rest) = record { kind = kind.Punct; rest = rest; change = change.Enter region.Children; opens = false }
+begin_by more None = record { kind = kind.Punct; jsx = true; rest = more; change = change.Enter region.Tag; opens = false }
+begin_by more (Some rest) = record { kind = kind.Punct; jsx = true; rest = rest; change = change.Enter region.Children; opens = false }
 
 -- after the `<`
 abbrev pub begin_next : Characters → Next
@@ -79,7 +80,7 @@ abbrev pub code_change : Characters → Change
 code_change sign = if same sign (codes "{") then change.Enter region.Braces else (if same sign (codes "}") then change.Leave else change.Stay)
 
 abbrev pub sign_next : Characters → Characters → Change → Next
-sign_next sign rest change = record { kind = kind.Punct; rest = rest; change = change; opens = allows_jsx (Some (tokens.Punct sign)) }
+sign_next sign rest change = record { kind = kind.Punct; jsx = false; rest = rest; change = change; opens = allows_jsx (Some (tokens.Punct sign)) }
 
 -- a sign of a table that the text begins with, and what follows it
 abbrev pub sign_or_none : Characters → Characters → Option (Characters × Characters)
@@ -105,12 +106,12 @@ this_or_rest rest (Some more) = more
 abbrev pub after_tag_name : Characters → Characters
 after_tag_name text = this_or_rest (after_run continues_attribute text) (after_char 36 (after_run continues_attribute text))
 
-abbrev pub plain_or_none : Kind → Option Characters → Option Next
-plain_or_none k None = None
-plain_or_none k (Some rest) = Some (plain k rest)
+abbrev pub attribute_or_none : Option Characters → Option Next
+attribute_or_none None = None
+attribute_or_none (Some rest) = Some (record { kind = kind.Text; jsx = true; rest = rest; change = change.Stay; opens = false })
 
 abbrev pub attribute_next : ℕ → Characters → Option Next
-attribute_next quote text = plain_or_none kind.Text (after_char quote (after_run (λ c. not (c == quote)) text))
+attribute_next quote text = attribute_or_none (after_char quote (after_run (λ c. not (c == quote)) text))
 
 abbrev pub tag_change : Characters → Change
 tag_change sign = if same sign (codes "{") then change.Enter region.Braces else (if same sign (codes ">") then change.Turn region.Children
@@ -146,12 +147,19 @@ kind_of (tokens.Punct sign) = kind.Punct
 kind_of (tokens.Begin sign) = kind.Punct
 kind_of (tokens.JsxText text) = kind.JsxText
 
+-- The tokens that another token of their kind may be spelled like: what begins JSX, and the text of an attribute.
+abbrev pub is_jsx : Token → Bool
+is_jsx (tokens.Attribute quote inside) = true
+is_jsx (tokens.Begin sign) = true
+is_jsx _ = false
+
 -- A token begins the text, and what is said of it holds. What may stand there is a predicate; around says what surrounds it.
 pub record Begins (may : Option Token → Token → Characters → Type 0) (around : Around) (opens : Bool) (text : Characters) (next : Next) : Type 0 where
   pub token : Token
   pub spells : spelling token next.rest ≡ text
   pub stands : (before : Option Token) → allows_jsx before ≡ opens → may before token next.rest
   pub has_kind : kind_of token ≡ next.kind
+  pub has_jsx : is_jsx token ≡ next.jsx
   pub leads : after around token ≡ changed next.change around
   pub opens_next : allows_jsx (Some token) ≡ next.opens
 

@@ -28,6 +28,8 @@ use std::alloc::{AllocError, AllocFailed};
 #[derive(Clone, Copy, Debug, PartialEq, Eq)]
 pub struct Token {
     pub kind: Kind,
+    /// Whether it is a `<` or `<>` that begins JSX, or the text of an attribute. Of the others each kind has one form.
+    pub jsx: bool,
     /// The place of its first byte.
     pub start: usize,
     /// The place after its last byte.

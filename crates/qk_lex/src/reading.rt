@@ -66,6 +66,7 @@ pub fn tokens(alloc: Global, text: &str) -> Result<Vec<Token>, LexFault>
         };
         found.push(Token {
             kind: token.kind,
+            jsx: token.jsx,
             start,
             end: text.len().saturating_sub(token.rest.len()),
         })?;

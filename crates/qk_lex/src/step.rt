@@ -20,6 +20,8 @@ use crate::tables::{Signs, is_before_jsx, is_reserved, is_same, sign_at};
 #[derive(Clone, Copy)]
 pub(crate) struct Found<'a> {
     pub(crate) kind: Kind,
+    /// Whether it begins JSX, or is the text of an attribute.
+    pub(crate) jsx: bool,
     /// What follows it.
     pub(crate) rest: &'a str,
     pub(crate) change: Change,
@@ -34,6 +36,7 @@ fn plain(kind: Kind, rest: &str) -> Found<'_>
 {
     Found {
         kind,
+        jsx: false,
         rest,
         change: Change::Stay,
         before_jsx: false,
@@ -51,6 +54,7 @@ fn word<'a>(text: &'a str, more: &'a str) -> Found<'a>
     if is_reserved(word) {
         Found {
             kind: Kind::Reserved,
+            jsx: false,
             rest,
             change: Change::Stay,
             before_jsx: is_same(word, b"return"),
@@ -129,6 +133,7 @@ fn template(from: Edge, more: &str) -> Option<Found<'_>>
     };
     Some(Found {
         kind: Kind::TemplatePart,
+        jsx: false,
         rest,
         change,
         before_jsx: false,
@@ -143,12 +148,14 @@ fn begin(more: &str) -> Found<'_>
     match after_char('>', more) {
         Some(rest) => Found {
             kind: Kind::Punct,
+            jsx: true,
             rest,
             change: Change::Enter(Region::Children),
             before_jsx: false,
         },
         None => Found {
             kind: Kind::Punct,
+            jsx: true,
             rest: more,
             change: Change::Enter(Region::Tag),
             before_jsx: false,
@@ -182,6 +189,7 @@ fn punct<'a>(sign: &[u8], rest: &'a str, change: Change) -> Found<'a>
 {
     Found {
         kind: Kind::Punct,
+        jsx: false,
         rest,
         change,
         before_jsx: is_before_jsx(sign),
@@ -283,7 +291,13 @@ fn attribute_text(quote: char, more: &str) -> Option<Found<'_>>
 {
     match after_char(quote, after_run(Class::IsNot(quote), more)) {
         None => None,
-        Some(rest) => Some(plain(Kind::Text, rest)),
+        Some(rest) => Some(Found {
+            kind: Kind::Text,
+            jsx: true,
+            rest,
+            change: Change::Stay,
+            before_jsx: false,
+        }),
     }
 }
 
@@ -344,6 +358,7 @@ fn end_token(text: &str) -> Option<Found<'_>>
     if c == '>' {
         return Some(Found {
             kind: Kind::Punct,
+            jsx: false,
             rest: more,
             change: Change::Leave,
             before_jsx: false,

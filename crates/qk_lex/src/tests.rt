@@ -177,6 +177,19 @@ fn markup(rt: HostRuntime) -> Result<(), Fail> {
 }
 
 #[test]
+fn which_begin_jsx(rt: HostRuntime) -> Result<(), Fail> {
+    let found = tokens(rt.alloc(), "(<a b='c'>d<e/></a>) < 'f'")?;
+    let mut marked = Vec::new(rt.alloc());
+    for token in found.iter() {
+        if token.jsx {
+            marked.push(token.start)?;
+        }
+    }
+    assert_eq!(rt; marked.as_slice(), [1, 6, 11].as_slice());
+    Ok(())
+}
+
+#[test]
 fn no_token_list(rt: HostRuntime) {
     refuses(&rt, rt.alloc(), "const a = 9007199254740992;", 10);
     refuses(&rt, rt.alloc(), "const a = 08;", 10);
@@ -217,5 +230,9 @@ fn texts_between_tags(rt: HostRuntime) -> Result<(), Fail> {
         "&lt; <>\"\u{a0} & &x; &am p;"
     );
     assert_eq!(rt; jsx_text(rt.alloc(), "\ra\r\nb\r")?.as_str(), "\ra b\r");
+    assert_eq!(rt;
+        attribute_text(rt.alloc(), " &lt;\r\n\t&amp ")?.as_str(),
+        " <\r\n\t&amp "
+    );
     Ok(())
 }
