@@ -1,11 +1,11 @@
 -- Tests, and runs of characters.
-use Rattle.std.specs.Prelude.{◌≡◌, refl, ℕ, Bool, true, false, not, ◌&&◌, ◌||◌, if◌then◌else◌, ◌==◌, List, [], ◌∷◌, ◌++◌, length, Option, Some, None, codes}
+use Rattle.std.specs.Prelude.{◌≡◌, refl, ℕ, Bool, true, false, not, ◌&&◌, if◌then◌else◌, ◌==◌, [], ◌∷◌, ◌++◌, Option, Some, None}
 use mathlib.Core.Path.{sym, ◌∙◌, ap, subst}
 use mathlib.Core.Logic.{◌⊎◌, inl, inr}
-use lib.Dec.{eqb→eq, T, eqb-suc-zero}
+use lib.Dec.{eqb→eq, T}
 use Rattle.std.proofs.lemmas.Bool.{false≢true, eq-eqb}
-use Rattle.qk_ast.specs.Characters.{Characters, every, begins_with, is_front, run, after_run}
-use Rattle.qk_ast.proofs.FrontToken.{left, right, if_true, if_false}
+use Rattle.qk_ast.specs.Characters.{Characters, every, begins_with, run, after_run}
+use Rattle.qk_ast.proofs.FrontToken.{if_true, if_false}
 
 -- which way a choice went
 pub which : {A : Type 0} (b : Bool) (x y r : A) → (if b then x else y) ≡ r → ((b ≡ true) × (x ≡ r)) ⊎ ((b ≡ false) × (y ≡ r))

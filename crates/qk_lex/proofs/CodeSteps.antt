@@ -4,26 +4,22 @@ use mathlib.Core.Path.{sym, ◌∙◌, ap, subst}
 use mathlib.Core.Logic.{◌⊎◌, inl, inr}
 use native.Mathlib.Omega.{arith}
 use lib.Dec.{T, ltb→lt, lt→ltb, leb→le, le→leb}
-use Rattle.std.proofs.lemmas.Bool.{false≢true, cases_lt, eq-eqb}
+use Rattle.std.proofs.lemmas.Bool.{false≢true, cases_lt}
 use Rattle.qk_ast.specs.Characters.{Characters, same, is_one_of, has, every, begins_with, is_front, is_digit, begins_name, continues_name, digit_value, number_after, run, after_run}
-use Rattle.qk_ast.specs.Tokens.{Token, Name, Reserved, Int, Text, Attribute, Template, Punct, Begin, JsxText, Edge, Backquote, Hole, Piece, closing, pieces_spelling, are_text_pieces, are_template_pieces, Around, Braces, In_hole, In_tag, In_end, Children, is_code, in_hole, leave, after_sign, after, spelling, reserved_words, code_signs, begin_signs, longest_after, is_sign, is_code_sign, is_word, is_int, ends_word, allows_jsx, is_code_token}
-use Rattle.qk_ast.proofs.FrontToken.{left, right, either, is_not, if_true, if_false, same_is, run_found, after_found, one_sign, among}
+use Rattle.qk_ast.specs.Tokens.{Token, Name, Reserved, Int, Text, Attribute, Template, Punct, Begin, JsxText, Edge, Backquote, Hole, Piece, pieces_spelling, are_text_pieces, Around, Braces, In_hole, In_tag, In_end, Children, is_code, in_hole, after_sign, after, spelling, reserved_words, code_signs, begin_signs, longest_after, is_sign, is_code_sign, is_int, ends_word, allows_jsx, is_code_token}
+use Rattle.qk_ast.proofs.FrontToken.{left, right, either, is_not, if_true, if_false, same_is, run_found, after_found, one_sign}
 use Rattle.qk_ast.proofs.Pieces.{heads, tails}
-use Rattle.qk_ast.proofs.OneToken.{Front, word_front, number_front, text_front, template_front, hole_front, begin_front, sign_front, front_of, front, rank, code_front, apart, sign_is_sign, no_digits, digit_no_name, a_quote, a_digit}
+use Rattle.qk_ast.proofs.OneToken.{Front, number_front, text_front, template_front, hole_front, begin_front, sign_front, front_of, front, rank, code_front, apart, sign_is_sign, no_digits, digit_no_name, a_quote}
 use Rattle.qk_ast.proofs.OneTokenList.{code_begins}
 use Rattle.qk_lex.specs.declared.Kind.TheVariants as kind
-use Rattle.qk_lex.specs.declared.regions.Region.TheVariants as region
-use Rattle.qk_lex.specs.declared.regions.Change.{Change}
 use Rattle.qk_lex.specs.declared.regions.Change.TheVariants as change
-use Rattle.qk_lex.specs.declared.tables.Signs.TheVariants as signs
 use Rattle.qk_lex.specs.Scan.{after_char}
-use Rattle.qk_lex.specs.Quotes.{Closes, Ends}
 use Rattle.qk_lex.specs.Tables.{sign_at}
 use Rattle.qk_lex.specs.Around_place.{changed}
-use Rattle.qk_lex.specs.Steps.{Next, plain, word_next, greatest, number_at, int_end, int_next, QuotedNext, part_change, PartNext, begin_by, begin_next, opens_comment, code_change, sign_next, sign_or_none, sign_of, code_by, code_sign_next, Begins, Steps, CodeSteps}
-use Rattle.qk_lex.proofs.Choices.{which, either_way, some_same, none_some, some_none, both, not_true, same_number, number_same, number_differs, run_whole, run_every, run_ends}
+use Rattle.qk_lex.specs.Steps.{Next, plain, word_next, greatest, number_at, int_end, int_next, QuotedNext, part_change, PartNext, begin_by, begin_next, opens_comment, code_change, sign_next, sign_or_none, sign_of, code_by, code_sign_next, Begins, CodeSteps}
+use Rattle.qk_lex.proofs.Choices.{which, either_way, some_none, both, not_true, same_number, number_same, number_differs, run_whole, run_every, run_ends}
 use Rattle.qk_lex.proofs.EscapeLemmas.{char_found}
-use Rattle.qk_lex.proofs.TableLemmas.{same_refl, empty_word, longest_is_sign, longest_none}
+use Rattle.qk_lex.proofs.TableLemmas.{longest_is_sign, longest_none}
 
 -- a token of another front doesn't stand there
 pub wrong : (around : Around) (before : Option Token) (t : Token) (rest text : Characters) (f : Front) → front_of around before text ≡ f → is_code_token around before t rest → spelling t rest ≡ text

@@ -1,5 +1,5 @@
 -- What is read as an escape is one, and where none is read none stands.
-use Rattle.std.specs.Prelude.{◌≡◌, refl, ℕ, zero, suc, ◌+◌, ◌-◌, ◌*◌, ◌≤◌, ◌<◌, min, Bool, true, false, not, ◌&&◌, ◌||◌, if◌then◌else◌, ◌==◌, List, [], ◌∷◌, ◌++◌, length, Option, Some, None, codes}
+use Rattle.std.specs.Prelude.{◌≡◌, refl, ℕ, zero, suc, ◌+◌, ◌-◌, ◌*◌, ◌≤◌, ◌<◌, Bool, true, false, not, ◌&&◌, ◌||◌, if◌then◌else◌, ◌==◌, [], ◌∷◌, ◌++◌, length, Option, Some, None, codes}
 use mathlib.Core.Path.{sym, ◌∙◌, ap, subst}
 use mathlib.Core.Logic.{◌⊎◌, inl, inr}
 use native.Mathlib.Omega.{arith}
@@ -8,11 +8,11 @@ use lib.Utf8.{scalar, scalar_cases}
 use Rattle.std.proofs.lemmas.Bool.{false≢true, cases_lt}
 use Rattle.qk_ast.specs.Characters.{Characters, has, every, begins_with, is_hex_digit, digit_value, number_after}
 use Rattle.qk_ast.specs.Tokens.{Piece, Plain, Escaped, Four, Braced, Return, Return_feed, piece_spelling, is_escape}
-use Rattle.qk_ast.proofs.FrontToken.{left, right, is_not, if_true, if_false}
+use Rattle.qk_ast.proofs.FrontToken.{left, right, if_true, if_false}
 use Rattle.qk_ast.proofs.Pieces.{heads, tails, nat_is}
 use Rattle.qk_lex.specs.Scan.{after_char}
 use Rattle.qk_lex.specs.Quotes.{with_digit, after_braced, after_digits, after_unicode, after_escape}
-use Rattle.qk_lex.proofs.Choices.{which, either_way, some_same, none_some, some_none, both, not_true, same_number, number_same}
+use Rattle.qk_lex.proofs.Choices.{which, either_way, some_same, none_some, some_none, both, same_number, number_same}
 
 -- ---- past the characters' numbers a number stays past them
 

@@ -1,11 +1,11 @@
 -- What is skipped is a gap, and after it no blank and no comment begins.
-use Rattle.std.specs.Prelude.{◌≡◌, refl, ℕ, Bool, true, false, not, ◌&&◌, ◌||◌, if◌then◌else◌, ◌==◌, List, [], ◌∷◌, ◌++◌, length, Option, Some, None, codes, IsTrue}
+use Rattle.std.specs.Prelude.{◌≡◌, refl, ℕ, Bool, true, false, not, ◌&&◌, ◌||◌, if◌then◌else◌, ◌==◌, [], ◌∷◌, ◌++◌, length, Some, None, codes}
 use mathlib.Core.Path.{sym, ◌∙◌, ap, subst}
 use mathlib.Core.Logic.{◌⊎◌, inl, inr}
 use Rattle.std.proofs.lemmas.Bool.{false≢true}
-use Rattle.qk_ast.specs.Characters.{Characters, every, begins_with, is_front, is_blank, run, after_run}
-use Rattle.qk_ast.specs.Tokens.{Blank, Space, Line, Block, blank_spelling, gap_spelling, has_no_end, is_blank_of, are_blanks}
-use Rattle.qk_ast.proofs.FrontToken.{left, right, is_not, if_true, if_false}
+use Rattle.qk_ast.specs.Characters.{Characters, begins_with, is_front, is_blank, run, after_run}
+use Rattle.qk_ast.specs.Tokens.{Blank, Space, Line, Block, blank_spelling, has_no_end, is_blank_of}
+use Rattle.qk_ast.proofs.FrontToken.{left, right, if_true}
 use Rattle.qk_ast.proofs.Pieces.{heads, tails}
 use Rattle.qk_lex.specs.declared.scan.Class.TheVariants as class
 use Rattle.qk_lex.specs.Scan.{is_in}

@@ -1,16 +1,16 @@
 -- What is read as the pieces of a text or template is, and where none are read none stand.
 use Rattle.std.specs.Prelude.{◌≡◌, refl, ℕ, Bool, true, false, not, ◌&&◌, ◌||◌, if◌then◌else◌, ◌==◌, List, [], ◌∷◌, Option, Some, None, codes, IsTrue}
 use mathlib.Core.Path.{sym, ◌∙◌, ap, subst}
-use mathlib.Core.Logic.{◌⊎◌, inl, inr}
+use mathlib.Core.Logic.{inl, inr}
 use Rattle.std.proofs.lemmas.Bool.{false≢true}
 use Rattle.qk_ast.specs.Characters.{Characters, begins_with, is_front}
 use Rattle.qk_ast.specs.Tokens.{Piece, Plain, Escaped, Four, Braced, Return, Return_feed, piece_spelling, pieces_spelling, is_escape, is_text_piece, are_text_pieces, is_template_piece, are_template_pieces, Edge, Backquote, Hole, closing}
-use Rattle.qk_ast.proofs.FrontToken.{left, right, is_not, if_true, if_false}
-use Rattle.qk_ast.proofs.Pieces.{heads, tails, escape_head, plain_no_escape, plain_no_quote, text_piece_one, no_close, plain_template, template_piece_one, no_edge}
+use Rattle.qk_ast.proofs.FrontToken.{left, right, is_not}
+use Rattle.qk_ast.proofs.Pieces.{heads, plain_no_escape, text_piece_one, no_close, plain_template, template_piece_one, no_edge}
 use Rattle.qk_lex.specs.Scan.{after_char}
 use Rattle.qk_lex.specs.Quotes.{after_escape, after_text_piece, Closes, this_or, after_template_piece, after_hole, Ends}
 use Rattle.qk_lex.proofs.Choices.{which, either_way, some_same, none_some, some_none, both, not_true, same_number, number_same, number_differs}
-use Rattle.qk_lex.proofs.EscapeLemmas.{char_found, char_there, escape_found, escape_none}
+use Rattle.qk_lex.proofs.EscapeLemmas.{char_found, escape_found, escape_none}
 
 -- ---- texts
 

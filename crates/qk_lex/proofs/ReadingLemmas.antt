@@ -1,17 +1,16 @@
 -- From single tokens to the tokens of a text.
-use Rattle.std.specs.Prelude.{◌≡◌, refl, ℕ, ◌+◌, ◌-◌, ◌≤◌, Bool, true, false, not, ◌&&◌, ◌||◌, if◌then◌else◌, ◌==◌, List, [], ◌∷◌, ◌++◌, length, chars, codes, Option, Some, None, IsTrue}
+use Rattle.std.specs.Prelude.{◌≡◌, refl, ℕ, ◌+◌, ◌-◌, ◌≤◌, Bool, true, false, ◌||◌, ◌==◌, List, [], ◌∷◌, ◌++◌, length, chars, Option, Some, None, IsTrue}
 use Rattle.std.specs.Str.{encode_utf8_all, IsUtf8}
 use mathlib.Core.Path.{sym, ◌∙◌, ap, subst}
-use mathlib.Core.Logic.{◌⊎◌, inl, inr}
+use mathlib.Core.Logic.{inl, inr}
 use native.Mathlib.Omega.{arith}
 use Rattle.std.proofs.Common.{length-append, append_assoc}
 use Rattle.std.proofs.lemmas.Bool.{false≢true}
 use Rattle.std.proofs.lemmas.Str.{chars-nil, encodes-append, encodes-chars}
-use Rattle.qk_ast.specs.Characters.{Characters, begins_with, is_front, is_blank, has, run, after_run}
+use Rattle.qk_ast.specs.Characters.{Characters, is_blank, after_run}
 use Rattle.qk_ast.specs.Tokens.{Token, Name, Reserved, Int, Text, Attribute, Template, Punct, Begin, JsxText, Backquote, Hole, Piece, Plain, Escaped, Four, Braced, Return, Return_feed, piece_spelling, pieces_spelling, opening, closing, Edge, spelling, Blank, Space, Line, Block, blank_spelling, gap_spelling, is_blank_of, are_blanks, is_gap, Around, Braces, In_hole, In_tag, In_end, Children, after, is_token, is_child_token, Written, End, Then, written, tokens_of, stands, Tokens, allows_jsx}
 use Rattle.qk_ast.specs.Faults.{LexicalAt, NothingBegins, around_after, last_of}
 use Rattle.qk_ast.proofs.FrontToken.{left, right, either}
-use Rattle.qk_ast.proofs.Pieces.{heads, tails}
 use Rattle.qk_ast.proofs.OneTagToken.{begins_gap, blank_begins, blank_one}
 use Rattle.qk_ast.proofs.OneTokenList.{is_text, Starts, starts, starts_end, something, token_one, gap_before, no_length}
 use Rattle.qk_lex.specs.declared.Token.{Token as Placed_token}
@@ -21,7 +20,7 @@ use Rattle.qk_lex.specs.Gaps.{NoBlank, Gap}
 use Rattle.qk_lex.specs.Around_place.{changed, innermost, gaps_in}
 use Rattle.qk_lex.specs.Steps.{Next, plain, kind_of, is_jsx, Begins, Steps}
 use Rattle.qk_lex.specs.Reading.{size, placed, TokensAt, GapIn, NoBlankIn, Reads, StopsIn}
-use Rattle.qk_lex.proofs.Choices.{either_way, same_number}
+use Rattle.qk_lex.proofs.Choices.{same_number}
 use Rattle.qk_lex.proofs.TagSteps.{text_steps}
 
 -- ---- what is spelled before a rest

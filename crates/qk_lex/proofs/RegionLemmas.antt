@@ -1,7 +1,7 @@
 -- The regions as a list with the innermost last.
-use Rattle.std.specs.Prelude.{◌≡◌, refl, ℕ, ◌+◌, ◌-◌, List, [], ◌∷◌, ◌++◌, length, slice_get, Option, Some, None}
+use Rattle.std.specs.Prelude.{◌≡◌, refl, ◌-◌, List, [], ◌∷◌, ◌++◌, length, slice_get, Option, Some, None}
 use Rattle.std.specs.Option.{option_map, option_to_list}
-use mathlib.Core.Path.{sym, ◌∙◌, ap, subst}
+use mathlib.Core.Path.{sym, ◌∙◌, ap}
 use native.Mathlib.Omega.{arith}
 use Rattle.qk_ast.specs.Tokens.{Around, leave}
 use Rattle.qk_lex.specs.declared.regions.Region.{Region}

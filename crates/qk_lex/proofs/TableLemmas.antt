@@ -1,20 +1,20 @@
 -- The longest sign of a table, reserved words, and Ints.
-use Rattle.std.specs.Prelude.{◌≡◌, refl, ℕ, ◌+◌, ◌-◌, ◌*◌, ◌≤◌, ◌<◌, min, Bool, true, false, not, ◌&&◌, ◌||◌, if◌then◌else◌, ◌==◌, nat_lt, nat_le, List, [], ◌∷◌, ◌++◌, length, take, drop, chars, codes, Option, Some, None}
+use Rattle.std.specs.Prelude.{◌≡◌, refl, ℕ, ◌-◌, Bool, true, false, ◌&&◌, ◌||◌, if◌then◌else◌, ◌==◌, nat_lt, List, [], ◌∷◌, ◌++◌, length, take, drop, chars, codes, Some, None}
 use Rattle.std.specs.Str.{encode_utf8_all, IsUtf8}
-use mathlib.Core.Path.{sym, ◌∙◌, ap, subst}
+use mathlib.Core.Path.{sym, ◌∙◌, ap}
 use mathlib.Core.Logic.{◌⊎◌, inl, inr}
 use native.Mathlib.Omega.{arith}
 use Rattle.std.proofs.lemmas.Bool.{false≢true}
 use Rattle.std.proofs.lemmas.Str.{encodes-chars}
 use Rattle.qk_ast.specs.Characters.{Characters, same, is_one_of, is_front, continues_name, run, after_run}
 use Rattle.qk_ast.specs.Tokens.{longest_after, is_sign, reserved_words}
-use Rattle.qk_ast.proofs.FrontToken.{left, right, is_not, if_true, if_false, same_is}
+use Rattle.qk_ast.proofs.FrontToken.{left, right, if_true, if_false, same_is}
 use Rattle.qk_lex.specs.declared.Kind.TheVariants as kind
 use Rattle.qk_lex.specs.declared.regions.Change.TheVariants as change
 use Rattle.qk_lex.specs.declared.tables.Signs.{Signs}
-use Rattle.qk_lex.specs.Tables.{signs_of, sign_at}
-use Rattle.qk_lex.specs.Steps.{Next, plain, word_next, sign_of}
-use Rattle.qk_lex.proofs.Choices.{which, either_way, both, same_number, number_same, run_whole}
+use Rattle.qk_lex.specs.Tables.{sign_at}
+use Rattle.qk_lex.specs.Steps.{plain, word_next, sign_of}
+use Rattle.qk_lex.proofs.Choices.{either_way, both, same_number, number_same, run_whole}
 use Rattle.qk_lex.proofs.BytesLemmas.{front_is, same_bytes, one_of_bytes, reserved_ascii, AllAscii, ascii_word}
 
 pub same_refl : (a : Characters) → same a a ≡ true

@@ -1,27 +1,25 @@
 -- What the lexer reads in tags and between them is the token that stands there, and where it reads none no token stands.
-use Rattle.std.specs.Prelude.{◌≡◌, refl, ℕ, Bool, true, false, not, ◌&&◌, ◌||◌, if◌then◌else◌, ◌==◌, nat_lt, List, [], ◌∷◌, ◌++◌, length, drop, codes, Option, Some, None, IsTrue}
+use Rattle.std.specs.Prelude.{◌≡◌, refl, ℕ, Bool, true, false, not, ◌&&◌, if◌then◌else◌, ◌==◌, nat_lt, [], ◌∷◌, ◌++◌, length, codes, Option, Some, None}
 use mathlib.Core.Path.{sym, ◌∙◌, ap, subst}
 use mathlib.Core.Logic.{◌⊎◌, inl, inr}
 use lib.Dec.{eqb-suc-zero}
 use Rattle.std.proofs.lemmas.Bool.{false≢true, eq-eqb}
 use Rattle.qk_ast.specs.Characters.{Characters, same, is_one_of, has, every, begins_with, is_front, is_letter, run, after_run}
-use Rattle.qk_ast.specs.Tokens.{Token, Name, Reserved, Int, Text, Attribute, Template, Punct, Begin, JsxText, Around, Braces, In_hole, In_tag, In_end, Children, after_sign, after, spelling, tag_signs, child_signs, begin_signs, longest_after, is_sign, continues_attribute, is_attribute_rest, is_attribute_name, allows_jsx, is_tag_token, is_end_token, is_child_token}
-use Rattle.qk_ast.proofs.FrontToken.{left, right, either, is_not, if_true, if_false, same_is, run_found, after_found, one_sign, among}
+use Rattle.qk_ast.specs.Tokens.{Token, Name, Reserved, Int, Text, Attribute, Template, Punct, Begin, JsxText, Around, In_tag, In_end, Children, after_sign, spelling, tag_signs, child_signs, longest_after, is_sign, continues_attribute, is_attribute_rest, is_tag_token, is_end_token, is_child_token}
+use Rattle.qk_ast.proofs.FrontToken.{left, if_true, if_false, same_is, after_found, among}
 use Rattle.qk_ast.proofs.Pieces.{heads, tails}
 use Rattle.qk_ast.proofs.OneToken.{a_quote}
-use Rattle.qk_ast.proofs.OneTokenList.{letter_or_quote, name_first, quote_first, sign_first, end_sign, is_text, child_first, text_first, begin_first, child_sign_first, tag_begins, end_begins, child_something}
+use Rattle.qk_ast.proofs.OneTokenList.{letter_or_quote, name_first, quote_first, sign_first, is_text, child_first, text_first, begin_first, tag_begins, end_begins, child_something}
 use Rattle.qk_lex.specs.declared.Kind.TheVariants as kind
-use Rattle.qk_lex.specs.declared.regions.Region.TheVariants as region
 use Rattle.qk_lex.specs.declared.regions.Change.TheVariants as change
-use Rattle.qk_lex.specs.declared.tables.Signs.TheVariants as signs
 use Rattle.qk_lex.specs.Scan.{after_char}
 use Rattle.qk_lex.specs.Tables.{sign_at}
 use Rattle.qk_lex.specs.Around_place.{changed}
-use Rattle.qk_lex.specs.Steps.{Next, plain, begin_next, sign_next, sign_or_none, sign_of, this_or_rest, after_tag_name, attribute_or_none, attribute_next, tag_change, tag_by, tag_sign_next, child_change, child_by, child_sign_next, Begins, Steps}
-use Rattle.qk_lex.proofs.Choices.{which, either_way, some_same, none_some, some_none, both, not_true, same_number, number_same, number_differs, run_whole, run_every, run_ends}
+use Rattle.qk_lex.specs.Steps.{Next, plain, begin_next, sign_or_none, sign_of, this_or_rest, after_tag_name, attribute_or_none, attribute_next, tag_change, tag_by, tag_sign_next, child_change, child_by, child_sign_next, Begins, Steps}
+use Rattle.qk_lex.proofs.Choices.{either_way, some_none, both, not_true, same_number, number_same, number_differs, run_whole, run_every, run_ends}
 use Rattle.qk_lex.proofs.EscapeLemmas.{char_found, char_there}
-use Rattle.qk_lex.proofs.TableLemmas.{same_refl, longest_is_sign, longest_none}
-use Rattle.qk_lex.proofs.CodeSteps.{BeginsBy, begins_as}
+use Rattle.qk_lex.proofs.TableLemmas.{longest_is_sign, longest_none}
+use Rattle.qk_lex.proofs.CodeSteps.{begins_as}
 
 abbrev in_tags : Option Token → Token → Characters → Type 0
 in_tags = λ _ t rest. is_tag_token t rest

@@ -1,5 +1,5 @@
 -- The regions around a place, and what a token does to them.
-use Rattle.std.specs.Prelude.{Bool, true, false, List, [], ◌∷◌, ◌++◌, Option, Some, None}
+use Rattle.std.specs.Prelude.{Bool, true, false, List, [], ◌∷◌, Option, Some, None}
 use Rattle.qk_ast.specs.Tokens as tokens
 use Rattle.qk_lex.specs.declared.regions.Region.{Region}
 use Rattle.qk_lex.specs.declared.regions.Region.TheVariants as region

@@ -1,5 +1,5 @@
 -- Blanks and comments at the front of a text.
-use Rattle.std.specs.Prelude.{◌≡◌, ℕ, Bool, true, false, ◌&&◌, if◌then◌else◌, ◌==◌, List, [], ◌∷◌, Option, Some, None, IsTrue}
+use Rattle.std.specs.Prelude.{◌≡◌, Bool, false, ◌&&◌, if◌then◌else◌, ◌==◌, List, [], ◌∷◌, Option, Some, None, IsTrue}
 use Rattle.qk_ast.specs.Characters.{Characters, is_blank, after_run}
 use Rattle.qk_ast.specs.Tokens.{Blank, blank_spelling, gap_spelling, is_blank_of, are_blanks}
 use Rattle.qk_lex.specs.declared.scan.Class.TheVariants.{Line}

@@ -1,5 +1,5 @@
 -- The lines of the text between tags, as they are read from its front.
-use Rattle.std.specs.Prelude.{◌≡◌, ℕ, zero, suc, Bool, true, false, if◌then◌else◌, ◌==◌, List, [], ◌∷◌, ◌++◌, codes}
+use Rattle.std.specs.Prelude.{ℕ, suc, if◌then◌else◌, ◌==◌, [], ◌∷◌, ◌++◌, codes}
 use Rattle.qk_ast.specs.Characters.{Characters, is_front}
 
 -- how many characters stand before the first line feed, or in all

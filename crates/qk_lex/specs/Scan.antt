@@ -1,5 +1,5 @@
 -- Reading a text from its front.
-use Rattle.std.specs.Prelude.{ℕ, Bool, true, false, not, ◌||◌, if◌then◌else◌, ◌==◌, List, [], ◌∷◌, length, Option, Some, None, codes}
+use Rattle.std.specs.Prelude.{ℕ, Bool, not, if◌then◌else◌, ◌==◌, [], ◌∷◌, length, Option, Some, None, codes}
 use Rattle.std.specs.Str.{encode_utf8_all}
 use Rattle.qk_ast.specs.Characters.{Characters, has, is_digit, continues_name}
 use Rattle.qk_ast.specs.Tokens.{continues_attribute}

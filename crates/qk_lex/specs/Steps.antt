@@ -1,6 +1,6 @@
 -- The token at the front of a text.
-use Rattle.std.specs.Prelude.{◌≡◌, ℕ, ◌+◌, ◌-◌, ◌*◌, min, Bool, true, false, not, ◌&&◌, ◌||◌, if◌then◌else◌, ◌==◌, nat_lt, List, [], ◌∷◌, ◌++◌, length, drop, chars, codes, Option, Some, None}
-use Rattle.qk_ast.specs.Characters.{Characters, same, is_one_of, begins_with, is_front, is_letter, is_digit, continues_name, run, after_run}
+use Rattle.std.specs.Prelude.{◌≡◌, ℕ, ◌+◌, ◌-◌, ◌*◌, min, Bool, true, false, not, ◌&&◌, ◌||◌, if◌then◌else◌, ◌==◌, nat_lt, [], ◌∷◌, length, drop, chars, codes, Option, Some, None}
+use Rattle.qk_ast.specs.Characters.{Characters, same, is_one_of, begins_with, is_digit, continues_name, after_run}
 use Rattle.qk_ast.specs.Tokens as tokens
 use Rattle.qk_ast.specs.Tokens.{Token, Around, Edge, Backquote, Hole, spelling, after, allows_jsx, reserved_words, continues_attribute}
 use Rattle.qk_lex.specs.declared.Kind.{Kind}
@@ -8,11 +8,10 @@ use Rattle.qk_lex.specs.declared.Kind.TheVariants as kind
 use Rattle.qk_lex.specs.declared.regions.Region.TheVariants as region
 use Rattle.qk_lex.specs.declared.regions.Change.{Change}
 use Rattle.qk_lex.specs.declared.regions.Change.TheVariants as change
-use Rattle.qk_lex.specs.declared.scan.Class.TheVariants as class
 use Rattle.qk_lex.specs.declared.step.Found.{Found}
 use Rattle.qk_lex.specs.declared.tables.Signs.{Signs}
 use Rattle.qk_lex.specs.declared.tables.Signs.TheVariants as signs
-use Rattle.qk_lex.specs.Scan.{is_in, after_char}
+use Rattle.qk_lex.specs.Scan.{after_char}
 use Rattle.qk_lex.specs.Quotes.{Closes, Ends}
 use Rattle.qk_lex.specs.Tables.{sign_at}
 use Rattle.qk_lex.specs.Around_place.{changed}

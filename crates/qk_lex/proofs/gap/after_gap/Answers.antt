@@ -1,4 +1,4 @@
-use Rattle.std.proofs.Common.{sym, arith, rules}
+use Rattle.std.proofs.Common.{sym, rules}
 use Rattle.qk_lex.proofs.GapLemmas.{gap_more, gap_none}
 use Rattle.qk_lex.proofs.gap.after_gap.Goals as goal
 

@@ -1,4 +1,4 @@
-use Rattle.std.proofs.Common.{◌<◌, ◌∙◌, sym, ap, arith, rules, length}
+use Rattle.std.proofs.Common.{◌<◌, ◌∙◌, sym, ap, arith, length}
 use Rattle.std.specs.Prelude.{if◌then◌else◌, drop}
 use Rattle.qk_ast.specs.JsxText.{without_spaces_before}
 use Rattle.qk_lex.proofs.JoinLemmas.{joined_last, joined_more}

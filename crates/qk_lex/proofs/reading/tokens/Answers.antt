@@ -1,4 +1,4 @@
-use Rattle.std.proofs.Common.{◌≡◌, ◌∙◌, ◌+◌, ◌-◌, ◌≤◌, ap, sym, subst, rules, arith, length}
+use Rattle.std.proofs.Common.{◌≡◌, ◌∙◌, ◌+◌, ◌-◌, ap, sym, rules, arith, length}
 use Rattle.std.specs.Str.{chars, IsUtf8}
 use Rattle.qk_lex.specs.Reading.{size}
 use Rattle.qk_lex.specs.Steps.{next_of}

@@ -1,4 +1,4 @@
-use Rattle.std.proofs.Common.{◌∙◌, sym, rules}
+use Rattle.std.proofs.Common.{◌∙◌, sym}
 use Rattle.qk_lex.proofs.TagSteps.{text_steps, child_sign_steps, child_empty}
 use Rattle.qk_lex.proofs.step.child_token.Goals as goal
 

@@ -1,4 +1,4 @@
-use Rattle.std.proofs.Common.{◌∙◌, sym, rules}
+use Rattle.std.proofs.Common.{◌∙◌, sym}
 use Rattle.qk_lex.proofs.CodeSteps.{word_steps, int_steps, quoted_steps, template_steps, hole_steps, begin_steps, only_signs, code_sign_steps, code_empty}
 use Rattle.qk_lex.proofs.step.code_token.Goals as goal
 

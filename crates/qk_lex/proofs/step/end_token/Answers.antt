@@ -1,4 +1,4 @@
-use Rattle.std.proofs.Common.{◌∙◌, sym, rules}
+use Rattle.std.proofs.Common.{◌∙◌, sym}
 use Rattle.qk_lex.proofs.TagSteps.{end_name_steps, end_sign_steps, end_stops, end_empty}
 use Rattle.qk_lex.proofs.step.end_token.Goals as goal
 

@@ -1,4 +1,4 @@
-use Rattle.std.proofs.Common.{◌∙◌, sym, rules}
+use Rattle.std.proofs.Common.{◌∙◌, sym}
 use Rattle.qk_lex.proofs.TagSteps.{tag_name_steps, attribute_steps, tag_sign_steps, tag_empty}
 use Rattle.qk_lex.proofs.step.tag_token.Goals as goal
 

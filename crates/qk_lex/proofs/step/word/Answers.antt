@@ -1,6 +1,6 @@
-use Rattle.std.proofs.Common.{◌≡◌, ◌∙◌, ◌∷◌, ◌-◌, sym, ap, length, take, List, ℕ}
-use Rattle.std.specs.Str.{chars, encode_utf8_all}
-use Rattle.qk_ast.specs.Characters.{continues_name, run, after_run}
+use Rattle.std.proofs.Common.{◌∙◌, ◌∷◌, ◌-◌, ap, length, take, List, ℕ}
+use Rattle.std.specs.Str.{chars}
+use Rattle.qk_ast.specs.Characters.{continues_name, run}
 use Rattle.qk_lex.proofs.TableLemmas.{word_bytes, word_reserved, word_plain}
 use Rattle.qk_lex.proofs.step.word.Goals as goal
 

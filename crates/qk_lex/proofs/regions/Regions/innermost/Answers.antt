@@ -1,5 +1,5 @@
 use Rattle.std.proofs.Common.{◌∙◌, ap, ◌-◌, length}
-use Rattle.std.specs.Option.{option_map, option_copied}
+use Rattle.std.specs.Option.{option_map}
 use Rattle.std.specs.List.{slice_get}
 use Rattle.qk_lex.specs.Around_place.{region_of, innermost}
 use Rattle.qk_lex.proofs.RegionLemmas.{last_innermost}

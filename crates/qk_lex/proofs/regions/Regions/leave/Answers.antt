@@ -1,4 +1,4 @@
-use Rattle.std.proofs.Common.{◌≡◌, ◌+◌, ◌∙◌, ap, subst, sym, rules, arith, vec_len, length, None}
+use Rattle.std.proofs.Common.{◌≡◌, ◌+◌, ◌∙◌, ap, subst, sym, vec_len}
 use Rattle.std.specs.Prelude.{MatchOption}
 use Rattle.qk_ast.specs.Tokens.{leave}
 use Rattle.qk_lex.proofs.RegionLemmas.{onto_leave}
