@@ -16,7 +16,7 @@ use Rattle.qk_ast.proofs.FrontToken.{left, right, if_true, if_false}
 use Rattle.qk_lex.specs.declared.tables.Signs.{Signs}
 use Rattle.qk_lex.specs.declared.tables.Signs.TheVariants as signs
 use Rattle.qk_lex.specs.Tables.{signs_of}
-use Rattle.qk_lex.proofs.Choices.{either_way, both, same_number, number_same, number_differs}
+use Rattle.qk_lex.proofs.Choices.{told, either_way, both, same_number, number_same, number_differs}
 
 -- what a slice's test says
 pub front_starts : (s text : List ℕ) → pointwise nat_eq s (take (length s) text) ≡ is_front s text
@@ -165,10 +165,6 @@ not_longer best sign text h = sym (if_false _ _ (and_false (is_front sign text) 
 
 pub longer : (best sign text : List ℕ) → pointwise nat_eq sign (take (length sign) text) ≡ true → length best < length sign → sign ≡ best_of best sign text
 longer best sign text h l = sym (if_true _ _ (both _ _ (sym (front_starts sign text) ∙ h) (told _ (lt→ltb (length best) (length sign) l))))
-  where
-    told : (b : Bool) → T b → b ≡ true
-    told true t = refl
-    told false t = absurd t
 
 pub signs_ascii : (signs : Signs) → AllSigns (signs_of signs)
 signs_ascii signs.Code = code_ascii

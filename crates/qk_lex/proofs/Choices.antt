@@ -1,5 +1,5 @@
 -- Tests, and runs of characters.
-use Rattle.std.specs.Prelude.{◌≡◌, refl, ℕ, Bool, true, false, not, ◌&&◌, if◌then◌else◌, ◌==◌, [], ◌∷◌, ◌++◌, Option, Some, None}
+use Rattle.std.specs.Prelude.{◌≡◌, refl, ℕ, Bool, true, false, not, ◌&&◌, ◌||◌, if◌then◌else◌, ◌==◌, [], ◌∷◌, ◌++◌, Option, Some, None}
 use mathlib.Core.Path.{sym, ◌∙◌, ap, subst}
 use mathlib.Core.Logic.{◌⊎◌, inl, inr}
 use lib.Dec.{eqb→eq, T}
@@ -40,6 +40,22 @@ both false b h k = absurd (false≢true h)
 
 pub not_true : (b : Bool) → b ≡ false → not b ≡ true
 not_true b h = ap not h
+
+pub or_true : (a b : Bool) → b ≡ true → (a || b) ≡ true
+or_true true b h = refl
+or_true false b h = h
+
+pub or_left : (a b : Bool) → a ≡ true → (a || b) ≡ true
+or_left true b h = refl
+or_left false b h = absurd (false≢true h)
+
+pub either_false : (a b : Bool) → (a || b) ≡ false → (a ≡ false) × (b ≡ false)
+either_false true b h = absurd (false≢true (sym h))
+either_false false b h = (refl, h)
+
+pub told : (b : Bool) → T b → b ≡ true
+told true t = refl
+told false t = absurd t
 
 pub same_number : (c d : ℕ) → (c == d) ≡ true → c ≡ d
 same_number c d h = eqb→eq c d (subst T (sym h) tt)

@@ -15,10 +15,10 @@ use Rattle.qk_lex.specs.declared.Kind.TheVariants as kind
 use Rattle.qk_lex.specs.declared.regions.Change.TheVariants as change
 use Rattle.qk_lex.specs.Scan.{after_char}
 use Rattle.qk_lex.specs.Tables.{sign_at}
-use Rattle.qk_lex.specs.Around_place.{changed}
+use Rattle.qk_lex.specs.Regions.{changed}
 use Rattle.qk_lex.specs.Steps.{Next, plain, word_next, greatest, number_at, int_end, int_next, QuotedNext, part_change, PartNext, begin_by, begin_next, opens_comment, code_change, sign_next, sign_or_none, sign_of, code_by, code_sign_next, Begins, CodeSteps}
-use Rattle.qk_lex.proofs.Choices.{which, either_way, some_none, both, not_true, same_number, number_same, number_differs, run_whole, run_every, run_ends}
-use Rattle.qk_lex.proofs.EscapeLemmas.{char_found}
+use Rattle.qk_lex.proofs.Choices.{or_true, or_left, either_false, told, either_way, both, not_true, same_number, number_same, number_differs, run_whole, run_every, run_ends}
+use Rattle.qk_lex.proofs.EscapeLemmas.{char_found, no_char}
 use Rattle.qk_lex.proofs.TableLemmas.{longest_is_sign, longest_none}
 
 -- a token of another front doesn't stand there
@@ -70,10 +70,6 @@ alike_digit m n v h = elim h [
   ]
   | inr b ↦ inr (omega (arith, b), omega (arith, b))
 ]
-
-told : (b : Bool) → T b → b ≡ true
-told true t = refl
-told false t = absurd t
 
 fits_or_not : (m n : ℕ) → Alike m n → nat_le n greatest ≡ not (nat_lt greatest m)
 fits_or_not m n h = elim (cases_lt greatest m) [
@@ -127,18 +123,6 @@ some_run p (c ∷ cs) h = ap (λ t. length t == 0) (if_true (c ∷ run p cs) [] 
   where
     no_zero : length (c ∷ run p cs) ≡ 0 → ⊥
     no_zero k = omega (arith, k)
-
-either_false : (a b : Bool) → (a || b) ≡ false → (a ≡ false) × (b ≡ false)
-either_false true b h = absurd (false≢true (sym h))
-either_false false b h = (refl, h)
-
-or_true : (a b : Bool) → b ≡ true → (a || b) ≡ true
-or_true true b h = refl
-or_true false b h = h
-
-or_left : (a b : Bool) → a ≡ true → (a || b) ≡ true
-or_left true b h = refl
-or_left false b h = absurd (false≢true h)
 
 and_left : (a b : Bool) → a ≡ true → (a && b) ≡ false → b ≡ false
 and_left true b h k = k
@@ -322,16 +306,6 @@ hole_steps hole opens text c more next e h k =
     (subst (λ b. CodeSteps b opens (125 ∷ more) next) (sym (right (c == 125) hole h)) (hole_by opens more next k))
 
 -- ---- the `<` or `<>` that begins JSX
-
-no_char : (c : ℕ) (text : Characters) → after_char c text ≡ None → is_front (c ∷ []) text ≡ false
-no_char c [] h = refl
-no_char c (d ∷ ds) h = elim (which (d == c) (Some ds) None None h) [
-  | inl x ↦ absurd (some_none x.1)
-  | inr x ↦ elim (either_way (c == d)) [
-    | inl e ↦ absurd (false≢true (sym x.0 ∙ (ap (λ y. d == y) (same_number c d e) ∙ number_same d)))
-    | inr e ↦ ap (λ b. b && true) e
-  ]
-]
 
 -- the sign, and what follows it
 abbrev pub BeginsBy : Characters → Next → Type 0

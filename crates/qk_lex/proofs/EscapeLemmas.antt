@@ -6,7 +6,7 @@ use native.Mathlib.Omega.{arith}
 use lib.Dec.{eqb-suc-zero}
 use lib.Utf8.{scalar, scalar_cases}
 use Rattle.std.proofs.lemmas.Bool.{false≢true, cases_lt}
-use Rattle.qk_ast.specs.Characters.{Characters, has, every, begins_with, is_hex_digit, digit_value, number_after}
+use Rattle.qk_ast.specs.Characters.{Characters, has, every, begins_with, is_front, is_hex_digit, digit_value, number_after}
 use Rattle.qk_ast.specs.Tokens.{Piece, Plain, Escaped, Four, Braced, Return, Return_feed, piece_spelling, is_escape}
 use Rattle.qk_ast.proofs.FrontToken.{left, right, if_true, if_false}
 use Rattle.qk_ast.proofs.Pieces.{heads, tails, nat_is}
@@ -135,6 +135,16 @@ char_found c (d ∷ ds) rest h = elim (which (d == c) (Some ds) None (Some rest)
 
 pub char_there : (c : ℕ) (rest : Characters) → after_char c (c ∷ rest) ≡ Some rest
 char_there c rest = if_true _ _ (number_same c)
+
+pub no_char : (c : ℕ) (text : Characters) → after_char c text ≡ None → is_front (c ∷ []) text ≡ false
+no_char c [] h = refl
+no_char c (d ∷ ds) h = elim (which (d == c) (Some ds) None None h) [
+  | inl x ↦ absurd (some_none x.1)
+  | inr x ↦ elim (either_way (c == d)) [
+    | inl e ↦ absurd (false≢true (sym x.0 ∙ (ap (λ y. d == y) (same_number c d e) ∙ number_same d)))
+    | inr e ↦ ap (λ b. b && true) e
+  ]
+]
 
 and_true : (b : Bool) → b ≡ true → (b && true) ≡ true
 and_true b h = both b true h refl

@@ -7,6 +7,7 @@ use mathlib.Core.Logic.{inl, inr}
 use native.Mathlib.Omega.{arith}
 use lib.ListN.{get_or}
 use Rattle.std.proofs.Common.{append_assoc}
+use Rattle.std.proofs.Math.Seq.{take-suc}
 use Rattle.std.proofs.lemmas.Bool.{false≢true}
 use Rattle.qk_ast.specs.Characters.{Characters, every, is_front}
 use Rattle.qk_ast.specs.JsxText.{onto_first, lines, without_spaces_before, unless_blank, without_spaces_after, later_lines, trimmed, after_space, joined, decoded_after, decoded}
@@ -15,11 +16,6 @@ use Rattle.qk_lex.specs.Joining.{line_end, drop_return, appended, first_decoded}
 use Rattle.qk_lex.proofs.Choices.{either_way, both, not_true, same_number, number_same, number_differs}
 
 -- ---- the last character of a line
-
-pub last_split : (xs : Characters) (n d : ℕ) → n < length xs → take (suc n) xs ≡ take n xs ++ get_or xs n d ∷ []
-last_split [] n d h = absurd (omega (arith, h))
-last_split (x ∷ xs) zero d h = refl
-last_split (x ∷ xs) (suc n) d h = ap (λ t. x ∷ t) (last_split xs n d (omega (arith, h)))
 
 all_taken : (xs : Characters) → take (length xs) xs ≡ xs
 all_taken [] = refl
@@ -41,7 +37,7 @@ others_stay (x ∷ xs) c h = ap (unless_blank x) (others_stay xs c h) ∙ before
 split_at : (xs : Characters) (n x : ℕ) → 0 < n → n ≤ length xs → x ≡ get_or xs (n - 1) x → take n xs ≡ take (n - 1) xs ++ x ∷ []
 split_at xs n x h k e =
     let one : n ≡ suc (n - 1) = omega (arith, h) in
-    ap (λ i. take i xs) one ∙ (last_split xs (n - 1) x (omega (arith, h, k)) ∙ ap (λ c. take (n - 1) xs ++ c ∷ []) (sym e))
+    ap (λ i. take i xs) one ∙ (take-suc xs (n - 1) x (omega (arith, h, k)) ∙ ap (λ c. take (n - 1) xs ++ c ∷ []) (sym e))
 
 pub space_last : (xs : Characters) (n x : ℕ) → 0 < n → n ≤ length xs → x ≡ get_or xs (n - 1) x → x ≡ 32 → without_spaces_after (take (n - 1) xs) ≡ without_spaces_after (take n xs)
 space_last xs n x h k e s = sym (ap without_spaces_after (split_at xs n x h k e ∙ ap (λ c. take (n - 1) xs ++ c ∷ []) s) ∙ spaces_go (take (n - 1) xs))

@@ -4,7 +4,7 @@ use mathlib.Core.Path.{sym, ap, subst}
 use Rattle.qk_ast.specs.Characters.{Characters}
 use Rattle.qk_ast.specs.Tokens as tokens
 use Rattle.qk_ast.specs.Tokens.{Around, Braces, In_hole, In_tag, In_end, Children, is_tag_token, is_end_token, is_child_token, is_token}
-use Rattle.qk_lex.specs.Around_place.{innermost}
+use Rattle.qk_lex.specs.Regions.{innermost}
 use Rattle.qk_lex.specs.Steps.{Next, Steps, CodeSteps}
 use Rattle.qk_lex.proofs.Choices.{some_same, some_none, none_some}
 

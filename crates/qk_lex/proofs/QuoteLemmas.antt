@@ -1,5 +1,5 @@
 -- What is read as the pieces of a text or template is, and where none are read none stand.
-use Rattle.std.specs.Prelude.{◌≡◌, refl, ℕ, Bool, true, false, not, ◌&&◌, ◌||◌, if◌then◌else◌, ◌==◌, List, [], ◌∷◌, Option, Some, None, codes, IsTrue}
+use Rattle.std.specs.Prelude.{◌≡◌, refl, ℕ, true, false, not, ◌&&◌, ◌||◌, if◌then◌else◌, ◌==◌, List, [], ◌∷◌, Option, Some, None, codes, IsTrue}
 use mathlib.Core.Path.{sym, ◌∙◌, ap, subst}
 use mathlib.Core.Logic.{inl, inr}
 use Rattle.std.proofs.lemmas.Bool.{false≢true}
@@ -9,8 +9,8 @@ use Rattle.qk_ast.proofs.FrontToken.{left, right, is_not}
 use Rattle.qk_ast.proofs.Pieces.{heads, plain_no_escape, text_piece_one, no_close, plain_template, template_piece_one, no_edge}
 use Rattle.qk_lex.specs.Scan.{after_char}
 use Rattle.qk_lex.specs.Quotes.{after_escape, after_text_piece, Closes, this_or, after_template_piece, after_hole, Ends}
-use Rattle.qk_lex.proofs.Choices.{which, either_way, some_same, none_some, some_none, both, not_true, same_number, number_same, number_differs}
-use Rattle.qk_lex.proofs.EscapeLemmas.{char_found, escape_found, escape_none}
+use Rattle.qk_lex.proofs.Choices.{either_false, which, some_same, none_some, some_none, both, not_true, same_number, number_same, number_differs}
+use Rattle.qk_lex.proofs.EscapeLemmas.{char_found, no_char, escape_found, escape_none}
 
 -- ---- texts
 
@@ -76,10 +76,6 @@ text_piece_plain quote c (Four ds) next more n h e = absurd (false≢true (sym n
 text_piece_plain quote c (Braced ds) next more n h e = absurd (false≢true (sym n ∙ ap (λ x. x == 92) (sym (heads e))))
 text_piece_plain quote c Return next more n h e = absurd (false≢true h)
 text_piece_plain quote c Return_feed next more n h e = absurd (false≢true h)
-
-either_false : (a b : Bool) → (a || b) ≡ false → (a ≡ false) × (b ≡ false)
-either_false true b h = absurd (false≢true (sym h))
-either_false false b h = (refl, h)
 
 raw_is_none : (quote c : ℕ) → ((c == 10) || (c == 13)) ≡ true → is_text_piece quote (Plain c) ≡ true → ⊥
 raw_is_none quote c r h =
@@ -186,16 +182,6 @@ is_template_escape (Four ds) next h = h
 is_template_escape (Braced ds) next h = h
 is_template_escape Return next h = absurd (false≢true h)
 is_template_escape Return_feed next h = absurd (false≢true h)
-
-no_char : (c : ℕ) (text : Characters) → after_char c text ≡ None → is_front (c ∷ []) text ≡ false
-no_char c [] h = refl
-no_char c (d ∷ ds) h = elim (which (d == c) (Some ds) None None h) [
-  | inl x ↦ absurd (some_none x.1)
-  | inr x ↦ elim (either_way (c == d)) [
-    | inl e ↦ absurd (false≢true (sym x.0 ∙ (ap (λ y. d == y) (same_number c d e) ∙ number_same d)))
-    | inr e ↦ ap (λ b. b && true) e
-  ]
-]
 
 no_hole : (c : ℕ) (text : Characters) → after_hole c text ≡ None → ((c == 36) && is_front (codes "{") text) ≡ false
 no_hole c text h = elim (which (c == 36) (after_char 123 text) None None h) [

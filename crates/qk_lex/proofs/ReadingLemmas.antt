@@ -17,7 +17,7 @@ use Rattle.qk_lex.specs.declared.Token.{Token as Placed_token}
 use Rattle.qk_lex.specs.declared.Kind.{Kind}
 use Rattle.qk_lex.specs.declared.Kind.TheVariants as kind
 use Rattle.qk_lex.specs.Gaps.{NoBlank, Gap}
-use Rattle.qk_lex.specs.Around_place.{changed, innermost, gaps_in}
+use Rattle.qk_lex.specs.Regions.{changed, innermost, gaps_in}
 use Rattle.qk_lex.specs.Steps.{Next, plain, kind_of, is_jsx, Begins, Steps}
 use Rattle.qk_lex.specs.Reading.{size, placed, TokensAt, GapIn, NoBlankIn, Reads, StopsIn}
 use Rattle.qk_lex.proofs.Choices.{same_number}

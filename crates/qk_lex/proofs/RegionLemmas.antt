@@ -5,7 +5,7 @@ use mathlib.Core.Path.{sym, ◌∙◌, ap}
 use native.Mathlib.Omega.{arith}
 use Rattle.qk_ast.specs.Tokens.{Around, leave}
 use Rattle.qk_lex.specs.declared.regions.Region.{Region}
-use Rattle.qk_lex.specs.Around_place.{region_of, onto, around_of, innermost}
+use Rattle.qk_lex.specs.Regions.{region_of, onto, around_of, innermost}
 
 pub onto_snoc : (xs : List Region) (r : Region) (around : Around) → onto (xs ++ r ∷ []) around ≡ region_of r ∷ onto xs around
 onto_snoc [] r around = refl

@@ -1,5 +1,5 @@
 -- The longest sign of a table, reserved words, and Ints.
-use Rattle.std.specs.Prelude.{◌≡◌, refl, ℕ, ◌-◌, Bool, true, false, ◌&&◌, ◌||◌, if◌then◌else◌, ◌==◌, nat_lt, List, [], ◌∷◌, ◌++◌, length, take, drop, chars, codes, Some, None}
+use Rattle.std.specs.Prelude.{◌≡◌, refl, ℕ, ◌-◌, Bool, true, false, ◌&&◌, if◌then◌else◌, ◌==◌, nat_lt, List, [], ◌∷◌, ◌++◌, length, take, drop, chars, codes, Some, None}
 use Rattle.std.specs.Str.{encode_utf8_all, IsUtf8}
 use mathlib.Core.Path.{sym, ◌∙◌, ap}
 use mathlib.Core.Logic.{◌⊎◌, inl, inr}
@@ -14,7 +14,7 @@ use Rattle.qk_lex.specs.declared.regions.Change.TheVariants as change
 use Rattle.qk_lex.specs.declared.tables.Signs.{Signs}
 use Rattle.qk_lex.specs.Tables.{sign_at}
 use Rattle.qk_lex.specs.Steps.{plain, word_next, sign_of}
-use Rattle.qk_lex.proofs.Choices.{either_way, both, same_number, number_same, run_whole}
+use Rattle.qk_lex.proofs.Choices.{or_true, or_left, either_way, both, same_number, number_same, run_whole}
 use Rattle.qk_lex.proofs.BytesLemmas.{front_is, same_bytes, one_of_bytes, reserved_ascii, AllAscii, ascii_word}
 
 pub same_refl : (a : Characters) → same a a ≡ true
@@ -25,14 +25,6 @@ same_refl (c ∷ cs) = both _ _ (number_same c) (same_refl cs)
 
 abbrev pub IsFrontSign : List Characters → Characters → Characters → Type 0
 IsFrontSign signs text sign = (is_one_of sign signs ≡ true) × (is_front sign text ≡ true)
-
-or_true : (a b : Bool) → b ≡ true → (a || b) ≡ true
-or_true true b h = refl
-or_true false b h = h
-
-or_left : (a b : Bool) → a ≡ true → (a || b) ≡ true
-or_left true b h = refl
-or_left false b h = absurd (false≢true h)
 
 longest_best : (signs : List Characters) (best text : Characters) → (longest_after best signs text ≡ best) ⊎ IsFrontSign signs text (longest_after best signs text)
 longest_best [] best text = inl refl

@@ -3,18 +3,18 @@ use Rattle.std.specs.Prelude.{◌≡◌, refl, ℕ, Bool, true, false, not, ◌&
 use mathlib.Core.Path.{sym, ◌∙◌, ap, subst}
 use mathlib.Core.Logic.{◌⊎◌, inl, inr}
 use lib.Dec.{eqb-suc-zero}
-use Rattle.std.proofs.lemmas.Bool.{false≢true, eq-eqb}
+use Rattle.std.proofs.lemmas.Bool.{false≢true}
 use Rattle.qk_ast.specs.Characters.{Characters, same, is_one_of, has, every, begins_with, is_front, is_letter, run, after_run}
 use Rattle.qk_ast.specs.Tokens.{Token, Name, Reserved, Int, Text, Attribute, Template, Punct, Begin, JsxText, Around, In_tag, In_end, Children, after_sign, spelling, tag_signs, child_signs, longest_after, is_sign, continues_attribute, is_attribute_rest, is_tag_token, is_end_token, is_child_token}
 use Rattle.qk_ast.proofs.FrontToken.{left, if_true, if_false, same_is, after_found, among}
 use Rattle.qk_ast.proofs.Pieces.{heads, tails}
 use Rattle.qk_ast.proofs.OneToken.{a_quote}
-use Rattle.qk_ast.proofs.OneTokenList.{letter_or_quote, name_first, quote_first, sign_first, is_text, child_first, text_first, begin_first, tag_begins, end_begins, child_something}
+use Rattle.qk_ast.proofs.OneTokenList.{no_way, no_child_way, letter_or_quote, name_first, quote_first, sign_first, is_text, child_first, text_first, begin_first, tag_begins, end_begins, child_something}
 use Rattle.qk_lex.specs.declared.Kind.TheVariants as kind
 use Rattle.qk_lex.specs.declared.regions.Change.TheVariants as change
 use Rattle.qk_lex.specs.Scan.{after_char}
 use Rattle.qk_lex.specs.Tables.{sign_at}
-use Rattle.qk_lex.specs.Around_place.{changed}
+use Rattle.qk_lex.specs.Regions.{changed}
 use Rattle.qk_lex.specs.Steps.{Next, plain, begin_next, sign_or_none, sign_of, this_or_rest, after_tag_name, attribute_or_none, attribute_next, tag_change, tag_by, tag_sign_next, child_change, child_by, child_sign_next, Begins, Steps}
 use Rattle.qk_lex.proofs.Choices.{either_way, some_none, both, not_true, same_number, number_same, number_differs, run_whole, run_every, run_ends}
 use Rattle.qk_lex.proofs.EscapeLemmas.{char_found, char_there}
@@ -94,9 +94,6 @@ end_name_steps around opens text c more rest next e h r k =
 
 -- ---- attribute texts
 
-apart_ways : (m n : ℕ) {a b : Characters} → letter_or_quote a ≡ m → letter_or_quote b ≡ n → (m == n) ≡ false → a ≡ b → ⊥
-apart_ways m n h k d e = false≢true (sym d ∙ eq-eqb m n (sym h ∙ (ap letter_or_quote e ∙ k)))
-
 abbrev not_quote : ℕ → ℕ → Bool
 not_quote q c = not (c == q)
 
@@ -112,11 +109,11 @@ attribute_by around opens q more h None k = λ before ob t rest may e. go t rest
         some_none (sym (char_there q next) ∙ (ap (λ t. after_char q t) (sym (after_found (not_quote q) inside (q ∷ next) all (ap not (number_same q))) ∙ ap (λ t. after_run (not_quote q) t) e) ∙ k))
 
     go : (t : Token) (rest : Characters) → is_tag_token t rest → spelling t rest ≡ q ∷ more → ⊥
-    go (Name name) rest may e = apart_ways 0 1 (name_first name rest may) (quote_way q more h) refl e
+    go (Name name) rest may e = no_way 0 1 (name_first name rest may) (quote_way q more h) refl e
     go (Attribute r inside) rest may e =
         let is : r ≡ q = heads e in
         unclosed inside rest (subst (λ x. every (not_quote x) inside ≡ true) is may.1) (subst (λ x. inside ++ x ∷ rest ≡ more) is (tails e))
-    go (Punct sign) rest may e = apart_ways 2 1 (sign_first sign rest may) (quote_way q more h) refl e
+    go (Punct sign) rest may e = no_way 2 1 (sign_first sign rest may) (quote_way q more h) refl e
     go (Reserved word) rest may e = may
     go (Int digits) rest may e = may
     go (Text r pieces) rest may e = may
@@ -176,8 +173,8 @@ tag_sign_by around opens text way = elim (either_way (length (longest_tag text) 
     no_sign sign rest k e = false≢true (ap (λ s. is_one_of s tag_signs) (sym e) ∙ left (is_one_of sign tag_signs) _ k)
 
     go : (length (longest_tag text) == 0) ≡ true → (t : Token) (rest : Characters) → is_tag_token t rest → spelling t rest ≡ text → ⊥
-    go z (Name name) rest may e = apart_ways 0 2 (name_first name rest may) way refl e
-    go z (Attribute r inside) rest may e = apart_ways 1 2 (quote_first r inside rest may.0) way refl e
+    go z (Name name) rest may e = no_way 0 2 (name_first name rest may) way refl e
+    go z (Attribute r inside) rest may e = no_way 1 2 (quote_first r inside rest may.0) way refl e
     go z (Punct sign) rest may e = no_sign sign rest may (longest_none tag_signs text z sign rest may e)
     go z (Reserved word) rest may e = may
     go z (Int digits) rest may e = may
@@ -245,9 +242,6 @@ text_steps around opens text c more rest next e h r k =
     not_empty : (cs : Characters) → not (length (c ∷ cs) == 0) ≡ true
     not_empty cs = ap not (eqb-suc-zero (length cs))
 
-child_ways : (m n : ℕ) {a b : Characters} → child_first a ≡ m → child_first b ≡ n → (m == n) ≡ false → a ≡ b → ⊥
-child_ways m n h k d e = false≢true (sym d ∙ eq-eqb m n (sym h ∙ (ap child_first e ∙ k)))
-
 child_leads : (around : Around) (sign : Characters) → is_one_of sign child_signs ≡ true → after_sign (Children ∷ around) sign ≡ changed (child_change sign) (Children ∷ around)
 child_leads around sign h = among (λ s. after_sign (Children ∷ around) s ≡ changed (child_change s) (Children ∷ around)) sign child_signs h (refl, (refl, (refl, tt)))
 
@@ -301,9 +295,9 @@ child_other around opens c more h z = elim (either_way (c == 60)) [
     way e = if_false _ _ h ∙ if_false _ _ (ap (λ b. b && not (is_front (codes "/") more)) e)
 
     go : (c == 60) ≡ false → (t : Token) (rest : Characters) → is_child_token t rest → spelling t rest ≡ c ∷ more → ⊥
-    go e (JsxText text) rest may k = child_ways 0 2 (text_first text rest (left (not (length text == 0) && every is_text text) _ may)) (way e) refl k
+    go e (JsxText text) rest may k = no_child_way 0 2 (text_first text rest (left (not (length text == 0) && every is_text text) _ may)) (way e) refl k
     go e (Punct sign) rest may k = no_child_sign (c ∷ more) z sign rest may k
-    go e (Begin sign) rest may k = child_ways 1 2 (begin_first sign rest may) (way e) refl k
+    go e (Begin sign) rest may k = no_child_way 1 2 (begin_first sign rest may) (way e) refl k
     go e (Name name) rest may k = may
     go e (Attribute r inside) rest may k = may
     go e (Reserved word) rest may k = may

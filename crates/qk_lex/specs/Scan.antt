@@ -1,6 +1,5 @@
 -- Reading a text from its front.
-use Rattle.std.specs.Prelude.{ℕ, Bool, not, if◌then◌else◌, ◌==◌, [], ◌∷◌, length, Option, Some, None, codes}
-use Rattle.std.specs.Str.{encode_utf8_all}
+use Rattle.std.specs.Prelude.{ℕ, Bool, not, if◌then◌else◌, ◌==◌, [], ◌∷◌, Option, Some, None, codes}
 use Rattle.qk_ast.specs.Characters.{Characters, has, is_digit, continues_name}
 use Rattle.qk_ast.specs.Tokens.{continues_attribute}
 use Rattle.qk_lex.specs.declared.scan.Class.{Class}
@@ -19,7 +18,3 @@ is_in (IsNot d) c = not (c == d)
 abbrev pub after_char : ℕ → Characters → Option Characters
 after_char c [] = None
 after_char c (d ∷ ds) = if d == c then Some ds else None
-
--- how many bytes the characters take
-unfoldable pub size : Characters → ℕ
-size cs = length (encode_utf8_all cs)

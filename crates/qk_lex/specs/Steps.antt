@@ -14,7 +14,7 @@ use Rattle.qk_lex.specs.declared.tables.Signs.TheVariants as signs
 use Rattle.qk_lex.specs.Scan.{after_char}
 use Rattle.qk_lex.specs.Quotes.{Closes, Ends}
 use Rattle.qk_lex.specs.Tables.{sign_at}
-use Rattle.qk_lex.specs.Around_place.{changed}
+use Rattle.qk_lex.specs.Regions.{changed}
 
 -- a token's kind, whether it begins JSX or is the text of an attribute, what follows it, what it does to the regions, and whether a `<` of code after it begins JSX
 pub record Next : Type 0 where

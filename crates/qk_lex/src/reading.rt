@@ -1,7 +1,7 @@
 ghost use Rattle.std.specs.Prelude.{◌≡◌, ◌≤◌, length, chars, IfOk, IfErr};
 ghost use Rattle.std.specs.Option.{option_map};
 ghost use Rattle.qk_ast.specs.Tokens.{Around};
-ghost use Rattle.qk_lex.specs.Around_place.{region_of, innermost, gaps_in};
+ghost use Rattle.qk_lex.specs.Regions.{region_of, innermost, gaps_in};
 ghost use Rattle.qk_lex.specs.Reading.{TokensAt, Refused, GapIn, NoBlankIn};
 
 use crate::gap::after_gap;

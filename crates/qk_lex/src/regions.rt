@@ -33,7 +33,7 @@ pub(crate) struct Regions {
 
 impl Model for Regions {
     ghost use Rattle.qk_ast.specs.Tokens.{Around};
-    ghost use Rattle.qk_lex.specs.Around_place.{around_of};
+    ghost use Rattle.qk_lex.specs.Regions.{around_of};
 
     ghost Value = { Around };
 
@@ -42,7 +42,7 @@ impl Model for Regions {
 
 impl Regions {
     ghost use Rattle.qk_ast.specs.Tokens.{leave};
-    ghost use Rattle.qk_lex.specs.Around_place.{region_of, innermost, changed};
+    ghost use Rattle.qk_lex.specs.Regions.{region_of, innermost, changed};
 
     pub(crate) fn new(alloc: Global) -> Regions
         ensures { result ≡ [] }

@@ -5,7 +5,7 @@ ghost use Rattle.qk_ast.specs.Characters.{has, is_digit, continues_name, run, af
 ghost use Rattle.qk_ast.specs.Tokens.{Around, is_tag_token, is_end_token, is_child_token, In_tag, In_end, Children, is_token};
 ghost use Rattle.qk_ast.specs.Tokens as tokens;
 ghost use Rattle.qk_lex.specs.Quotes.{edge_of};
-ghost use Rattle.qk_lex.specs.Around_place.{region_of, innermost};
+ghost use Rattle.qk_lex.specs.Regions.{region_of, innermost};
 ghost use Rattle.qk_lex.specs.Steps as spec;
 
 use crate::Kind;

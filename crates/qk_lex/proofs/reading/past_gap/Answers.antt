@@ -1,5 +1,5 @@
 use Rattle.std.proofs.Common.{◌∙◌, ap, sym}
-use Rattle.qk_lex.specs.Around_place.{gaps_in}
+use Rattle.qk_lex.specs.Regions.{gaps_in}
 use Rattle.qk_lex.proofs.ReadingLemmas.{gap_in, no_gap_in}
 use Rattle.qk_lex.proofs.reading.past_gap.Goals as goal
 

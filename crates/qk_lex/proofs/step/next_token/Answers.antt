@@ -1,6 +1,6 @@
 use Rattle.std.proofs.Common.{◌∙◌, ap}
 use Rattle.std.specs.Option.{option_map}
-use Rattle.qk_lex.specs.Around_place.{region_of}
+use Rattle.qk_lex.specs.Regions.{region_of}
 use Rattle.qk_lex.proofs.Lifts.{in_module}
 use Rattle.qk_lex.proofs.step.next_token.Goals as goal
 

@@ -1,5 +1,5 @@
 use Rattle.std.proofs.Common.{◌∙◌, ap, Some}
-use Rattle.qk_lex.specs.Around_place.{region_of}
+use Rattle.qk_lex.specs.Regions.{region_of}
 use Rattle.qk_lex.proofs.Lifts.{in_braces, in_a_hole, in_a_tag, in_an_end, in_children}
 use Rattle.qk_lex.proofs.step.token_in.Goals as goal
 

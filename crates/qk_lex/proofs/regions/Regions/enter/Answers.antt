@@ -1,5 +1,5 @@
 use Rattle.std.proofs.Common.{◌∙◌, ◌∷◌, ap, []}
-use Rattle.qk_lex.specs.Around_place.{around_of, region_of}
+use Rattle.qk_lex.specs.Regions.{around_of, region_of}
 use Rattle.qk_lex.proofs.RegionLemmas.{onto_snoc}
 use Rattle.qk_lex.proofs.regions.Regions.enter.Goals as goal
 

@@ -1,7 +1,7 @@
 use Rattle.std.proofs.Common.{◌∙◌, ap, ◌-◌, length}
 use Rattle.std.specs.Option.{option_map}
 use Rattle.std.specs.List.{slice_get}
-use Rattle.qk_lex.specs.Around_place.{region_of, innermost}
+use Rattle.qk_lex.specs.Regions.{region_of, innermost}
 use Rattle.qk_lex.proofs.RegionLemmas.{last_innermost}
 use Rattle.qk_lex.proofs.regions.Regions.innermost.Goals as goal
 
