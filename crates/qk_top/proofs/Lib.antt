@@ -9,3 +9,4 @@ pub mod Numbers
 pub mod Commands
 pub mod Scripts
 pub mod Orders
+pub mod Usage

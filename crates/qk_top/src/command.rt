@@ -1,9 +1,10 @@
-ghost use Rattle.std.specs.Prelude.{◌≡◌, ◌≤◌, ◌<◌, ◌⊎◌, Some, [], ◌∷◌, map, string_bytes};
+ghost use Rattle.std.specs.Prelude.{◌≡◌, ◌≤◌, ◌<◌, ◌⊎◌, Some, [], ◌∷◌, map, string_bytes, codes};
 ghost use Rattle.std.specs.Option.{option_map};
 ghost use Rattle.qk_store.specs.Causes.{Rose};
 ghost use Rattle.qk_store.specs.Pieces.{with_piece, AppendsFront};
+ghost use Rattle.qk_meaning.specs.Output.{line};
 ghost use Rattle.qk_top.specs.Answers.{IsUsage};
-ghost use Rattle.qk_top.specs.Stops.{PutsLastLine, Finishes};
+ghost use Rattle.qk_top.specs.Stops.{IsPut, PutsLastLine, Finishes};
 ghost use Rattle.qk_top.specs.Reads.{ReadsInOrder};
 ghost use Rattle.qk_top.specs.Run.{Headline, Complete, Printed, PrintedFront, Comes, IsOneOf};
 
@@ -27,6 +28,7 @@ pub fn run<S: Store, K: Sink>(alloc: Global, words: &[String], store: &mut S, ou
     // Which answer comes: by the told files, and for the words by themselves.
     ensures comes { (told : _) → S.files store.old ≡ Some told → Comes (map string_bytes words.now) told result }
     ensures usage { IsUsage (map string_bytes words.now) → IsOneOf result (1 ∷ 7 ∷ 8 ∷ []) }
+    ensures usage_line { result ≡ 1 → IsPut (line (codes "usage")) (K.bytes out.old) (K.bytes out.new) }
     ensures usage_only { result ≡ 1 → IsUsage (map string_bytes words.now) }
     ensures statuses { IsOneOf result (0 ∷ 1 ∷ 2 ∷ 5 ∷ 6 ∷ 7 ∷ 8 ∷ []) }
 
