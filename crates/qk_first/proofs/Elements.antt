@@ -1,5 +1,5 @@
 -- The HTML of the element is what the counter prints, and it is within the limits.
-use Rattle.std.specs.Prelude.{◌≡◌, refl, ◌≤◌, ℤ, Bool, true, false, nat_le, List, [], ◌∷◌, ◌++◌, length, Option, Some, None, IsTrue, codes}
+use Rattle.std.specs.Prelude.{◌≡◌, refl, ◌≤◌, ℤ, Bool, true, false, ◌&&◌, nat_le, List, [], ◌∷◌, ◌++◌, length, Option, Some, None, IsTrue, codes}
 use Rattle.std.specs.List.{list_any}
 use Rattle.std.proofs.Common.{ap, ◌∙◌, arith, append-nil}
 use Rattle.std.proofs.lemmas.List.{length-append}
@@ -12,13 +12,13 @@ use Rattle.qk_meaning.specs.Expansion.{Tagged, Inside, Nodes, no_nodes, node, jo
 use Rattle.qk_meaning.specs.Html as Html
 use Rattle.qk_meaning.specs.Html.{written, text_char, html, nodes_count, closed, void_tags}
 use Rattle.qk_meaning.specs.Tree as Found
-use Rattle.qk_meaning.specs.Tree.{heard_by, listener_among, first_with, shows_id}
+use Rattle.qk_meaning.specs.Tree.{heard_by, listener_among, first_with, shows_id, names_event}
 use Rattle.qk_meaning.specs.Hooks.{or_else}
-use Rattle.qk_meaning.specs.Item.{html_within_limits}
+use Rattle.qk_meaning.specs.Item.{Event, html_within_limits}
 use Rattle.qk_meaning.specs.Doing.{Gives, chosen, give}
 use Rattle.qk_meaning.specs.Running.{Running, fault}
 use Rattle.qk_meaning.specs.Fault.{TreeTooLarge, HtmlTooLong}
-use Rattle.qk_first.specs.Counter.{Counter, has_id, attributes_html, shown_number, first_html}
+use Rattle.qk_first.specs.Counter.{Counter, has_id, clicks_it, attributes_html, shown_number, first_html}
 use Rattle.qk_first.proofs.Words.{listener_site}
 use Rattle.qk_first.proofs.Texts.{among, IsWord}
 use Rattle.qk_first.proofs.Listings.{Listing, nothing, id_only, click_only, id_click, click_id, has_listener}
@@ -132,12 +132,12 @@ module _ (c : Counter) (n : Text) (list : Listing c.attributes) (tagged : IsTag 
       ∙ ap (λ (t : Text). chosen (nat_le (length t) 16777216) (give t) (fault HtmlTooLong) s) (html_is v)
       ∙ ap (λ (b : Bool). chosen b (give (first_html c v)) (fault HtmlTooLong) s) (le-leb (length (first_html c v)) 16777216 (omega (arith, html_short v)))
 
--- ---- who hears a click
+-- ---- who hears an event
 
 abbrev pub own_listener : Text → Value
 own_listener n = Closure listener_site (field n (Ref 1) end) false
 
--- the listener where the id is the element's and it has one
+-- the listener where the event is a click at the element and it has one
 abbrev pub if_both : Bool → Bool → Value → Option Value
 if_both true true f = Some f
 if_both true false f = None
@@ -158,20 +158,55 @@ id_shown n id click_only = refl
 id_shown n id (id_click w) = refl
 id_shown n id (click_id w) = refl
 
-listener_found : (n : Text) {attributes : List First_attribute} → Listing attributes → Found.listener (codes "click") (attribute_fields n attributes) ≡ if_both true (has_listener attributes) (own_listener n)
-listener_found n nothing = refl
-listener_found n (id_only w) = refl
-listener_found n click_only = refl
-listener_found n (id_click w) = refl
-listener_found n (click_id w) = refl
+-- the letters of `onClick$` are those of a click alone
+names_click : (kind : Text) → names_event kind (codes "Click$") ≡ same_text kind (codes "click")
+names_click [] = refl
+names_click (a ∷ []) = refl
+names_click (a ∷ b ∷ []) = refl
+names_click (a ∷ b ∷ c ∷ []) = refl
+names_click (a ∷ b ∷ c ∷ d ∷ []) = refl
+names_click (a ∷ b ∷ c ∷ d ∷ e ∷ []) = refl
+names_click (a ∷ b ∷ c ∷ d ∷ e ∷ f ∷ rest) = refl
 
-pub heard_is : (c : Counter) (n id : Text) → Listing c.attributes → (v : ℤ)
-    → heard_by (codes "click") id (node (Inside [] (node (Tagged c.tag (attribute_fields n c.attributes) (child_nodes c.shows v)) no_nodes)) no_nodes)
-    ≡ if_both (has_id id c.attributes) (has_listener c.attributes) (own_listener n)
-heard_is c n id list v =
-    ap (λ (b : Bool). listener_among (codes "click") (or_else (or_else (elim b [ true ↦ Some (attribute_fields n c.attributes) | false ↦ first_with id (child_nodes c.shows v) ]) None) None)) (id_shown n id list)
-    ∙ go (has_id id c.attributes)
+-- what listens to events of a kind
+abbrev heard_if : Bool → Value → Option Value
+heard_if b f = elim (b && true) [ true ↦ Some f | false ↦ None ]
+
+if_click : (n : Text) (kind : Text) → heard_if (names_event kind (codes "Click$")) (own_listener n) ≡ if_both (same_text kind (codes "click")) true (own_listener n)
+if_click n kind = ap (λ (b : Bool). heard_if b (own_listener n)) (names_click kind) ∙ go (same_text kind (codes "click"))
   where
-    go : (b : Bool) → listener_among (codes "click") (or_else (or_else (elim b [ true ↦ Some (attribute_fields n c.attributes) | false ↦ first_with id (child_nodes c.shows v) ]) None) None) ≡ if_both b (has_listener c.attributes) (own_listener n)
-    go true = listener_found n list
-    go false = ap (λ (o : Option Fields). listener_among (codes "click") (or_else (or_else o None) None)) (child_unfound id c.shows v)
+    go : (b : Bool) → heard_if b (own_listener n) ≡ if_both b true (own_listener n)
+    go true = refl
+    go false = refl
+
+never : (b : Bool) (f : Value) → None ≡ if_both b false f
+never true f = refl
+never false f = refl
+
+listener_found : (n kind : Text) {attributes : List First_attribute} → Listing attributes
+    → Found.listener kind (attribute_fields n attributes) ≡ if_both (same_text kind (codes "click")) (has_listener attributes) (own_listener n)
+listener_found n kind nothing = never _ _
+listener_found n kind (id_only w) = never _ _
+listener_found n kind click_only = if_click n kind
+listener_found n kind (id_click w) = if_click n kind
+listener_found n kind (click_id w) = if_click n kind
+
+pub heard_is : (c : Counter) (n : Text) (e : Event) → Listing c.attributes → (v : ℤ)
+    → heard_by e.kind e.id (node (Inside [] (node (Tagged c.tag (attribute_fields n c.attributes) (child_nodes c.shows v)) no_nodes)) no_nodes)
+    ≡ if_both (clicks_it c e) (has_listener c.attributes) (own_listener n)
+heard_is c n e list v =
+    ap (λ (b : Bool). listener_among e.kind (or_else (or_else (elim b [ true ↦ Some (attribute_fields n c.attributes) | false ↦ first_with e.id (child_nodes c.shows v) ]) None) None)) (id_shown n e.id list)
+    ∙ go (has_id e.id c.attributes)
+  where
+    other_id : (a : Bool) → None ≡ if_both (a && false) (has_listener c.attributes) (own_listener n)
+    other_id true = refl
+    other_id false = refl
+
+    own_id : (a : Bool) → if_both a (has_listener c.attributes) (own_listener n) ≡ if_both (a && true) (has_listener c.attributes) (own_listener n)
+    own_id true = refl
+    own_id false = refl
+
+    go : (b : Bool) → listener_among e.kind (or_else (or_else (elim b [ true ↦ Some (attribute_fields n c.attributes) | false ↦ first_with e.id (child_nodes c.shows v) ]) None) None)
+        ≡ if_both (same_text e.kind (codes "click") && b) (has_listener c.attributes) (own_listener n)
+    go true = listener_found n e.kind list ∙ own_id (same_text e.kind (codes "click"))
+    go false = ap (λ (o : Option Fields). listener_among e.kind (or_else (or_else o None) None)) (child_unfound e.id c.shows v) ∙ other_id (same_text e.kind (codes "click"))

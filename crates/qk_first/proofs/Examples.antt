@@ -3,6 +3,7 @@ use Rattle.std.specs.Prelude.{◌≡◌, refl, true, List, [], ◌∷◌, ◌++�
 use Rattle.qk_ast.specs.First.{First_text, Id, On_click, Shown, Selfclosing}
 use Rattle.qk_ast.specs.Grammar.{Last_name, Next_name}
 use Rattle.qk_meaning.specs.Value.{Text}
+use Rattle.qk_meaning.specs.Item.{Event}
 use Rattle.qk_first.specs.Counter.{counter_of, first_output}
 
 abbrev lines_of : List Text → Text
@@ -19,7 +20,18 @@ shown = record {
   shape = Shown;
 }
 
-shown_printed : first_output (counter_of shown) (codes "b" ∷ codes "x" ∷ codes "b" ∷ []) ≡ lines_of (
+abbrev click : Text → Event
+click id = record { kind = codes "click"; id = id; value = None }
+
+-- a value changes nothing
+abbrev clicked_with : Text → Event
+clicked_with value = record { kind = codes "click"; id = codes "b"; value = Some value }
+
+-- nothing hears an event of another kind
+abbrev input : Event
+input = record { kind = codes "input"; id = codes "b"; value = Some (codes "1") }
+
+shown_printed : first_output (counter_of shown) (click (codes "b") ∷ click (codes "x") ∷ clicked_with (codes "7") ∷ input ∷ []) ≡ lines_of (
     codes "item 0" ∷
     codes "html <button id=\"b\">0</button>" ∷
     codes "item 1" ∷
@@ -28,6 +40,9 @@ shown_printed : first_output (counter_of shown) (codes "b" ∷ codes "x" ∷ cod
     codes "none" ∷
     codes "html <button id=\"b\">1</button>" ∷
     codes "item 3" ∷
+    codes "html <button id=\"b\">2</button>" ∷
+    codes "item 4" ∷
+    codes "none" ∷
     codes "html <button id=\"b\">2</button>" ∷
     [])
 shown_printed = refl

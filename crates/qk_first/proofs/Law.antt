@@ -18,6 +18,7 @@ use Rattle.qk_meaning.specs.Running.{Running, Mode, Pure, Effect, At_site, Enter
 use Rattle.qk_meaning.specs.Setting.{setting_of}
 use Rattle.qk_meaning.specs.Evaluation.{entered, entering, field_values}
 use Rattle.qk_meaning.specs.Readings.{program_of}
+use Rattle.qk_meaning.specs.Item.{Event}
 use Rattle.qk_first.specs.Counter.{Counter, counter_of, initial_of, is_shown}
 use Rattle.qk_first.specs.Laws.{RunsAsCounter, FirstRun}
 use Rattle.qk_first.proofs.Words.{component_site, listener_site, attribute_pairs, field_row, element, first_module}
@@ -104,14 +105,14 @@ module _ (names : List Text) (n tag : Text) (k : ℕ) (shows : Bool) {attributes
         ∙ listener.counts p (entering p l) n (up_of attributes) listener_site arguments v log [] turns stays (differs (up_of attributes) v);
   }
 
-  with_signal : (ids : List Text) → k + length ids ≤ 2000000
-      → runs.RunsWhole p (suc l) counter n list tagged (app_is names n tag (Some (pos k)) shows attributes other) rest hooks (λ log. refl) (reads_told shows) signal_does ids
-  with_signal ids room =
+  with_signal : (events : List Event) → k + length events ≤ 2000000
+      → runs.RunsWhole p (suc l) counter n list tagged (app_is names n tag (Some (pos k)) shows attributes other) rest hooks (λ log. refl) (reads_told shows) signal_does events
+  with_signal events room =
       runs.runs_whole p (suc l) counter n list tagged (app_is names n tag (Some (pos k)) shows attributes other) rest hooks (λ log. refl) (reads_told shows) signal_does
       (λ turns.
       enters p l Pure component_site end (Ref 0 ∷ []) (record { heap = Props end ∷ []; log = []; lines = []; turns = suc turns; trace = []; locals = end; hooking = Mounting [] [] [] }) (component_code n (pos k) (element shows n tag attributes)) (component_coded names n tag (Some (pos k)) shows attributes)
       ∙ component.mounts p (entering p l) n tag shows attributes (makes p l n tag shows list signal_light) signal_fields (pos k) (hook_root names n tag (Some (pos k)) shows attributes hooked) (not_hook n w) component_site (Ref 0 ∷ []) turns [] [] [])
-      ids room
+      events room
 
 -- ---- without one
 
@@ -139,11 +140,11 @@ module _ (names : List Text) (n tag : Text) {attributes : List First_attribute} 
     counts = λ e v arguments log turns stays. absurd (false≢true (sym silent ∙ e));
   }
 
-  without_signal : (ids : List Text) → length ids ≤ 2000000
-      → runs.RunsWhole bare_p (suc l) bare_counter n list tagged (app_is names n tag None false attributes other) (λ v. []) [] (λ log. refl) (λ at. []) bare_does ids
-  without_signal ids room =
+  without_signal : (events : List Event) → length events ≤ 2000000
+      → runs.RunsWhole bare_p (suc l) bare_counter n list tagged (app_is names n tag None false attributes other) (λ v. []) [] (λ log. refl) (λ at. []) bare_does events
+  without_signal events room =
       runs.runs_whole bare_p (suc l) bare_counter n list tagged (app_is names n tag None false attributes other) (λ v. []) [] (λ log. refl) (λ at. []) bare_does
-      (λ turns. enters_bare (Props end ∷ []) [] [] turns [] (Mounting [] [] [])) ids (omega arith)
+      (λ turns. enters_bare (Props end ∷ []) [] [] turns [] (Mounting [] [] [])) events (omega arith)
 
 -- ---- a text of the first form
 
@@ -157,23 +158,23 @@ no_listener (click_id w) h = absurd (false≢true h)
 
 runs_in : (names : List Text) (n tag : Text) (initial : Option Characters) {attributes : List First_attribute} (shape : Shape) (list : Listing attributes) (tagged : IsTag tag) (w : IsWord n)
     → is_listed (codes "App") names ≡ false → (qwik : List Characters) → IsTrue (state_fits initial qwik attributes shape) → (IsTrue (is_one_of (codes "useSignal") qwik) → is_listed (codes "useSignal") names ≡ true)
-    → (ids : List Text) → length ids ≤ 65536
-    → RunsAsCounter (first_module names n (signal_of initial) (element (is_shown shape) n tag attributes)) (record { tag = tag; attributes = attributes; initial = initial_of initial; shows = is_shown shape }) ids
-runs_in names n tag (Some digits) shape list tagged w other qwik fits hooked ids room =
+    → (events : List Event) → length events ≤ 65536
+    → RunsAsCounter (first_module names n (signal_of initial) (element (is_shown shape) n tag attributes)) (record { tag = tag; attributes = attributes; initial = initial_of initial; shows = is_shown shape }) events
+runs_in names n tag (Some digits) shape list tagged w other qwik fits hooked events room =
     let small = leb-true (number_after 10 0 digits) 1000000 (left _ _ fits) in
-    let r = with_signal names n tag (number_after 10 0 digits) (is_shown shape) list tagged w 47 other (hooked (right _ _ fits)) ids (omega arith) in
+    let r = with_signal names n tag (number_after 10 0 digits) (is_shown shape) list tagged w 47 other (hooked (right _ _ fits)) events (omega arith) in
     record { entries = r.entries; run = r.run; prints = r.prints }
-runs_in names n tag None Selfclosing list tagged w other qwik fits hooked ids room =
-    let r = without_signal names n tag list tagged 47 other (no_listener list fits) ids (omega arith) in
+runs_in names n tag None Selfclosing list tagged w other qwik fits hooked events room =
+    let r = without_signal names n tag list tagged 47 other (no_listener list fits) events (omega arith) in
     record { entries = r.entries; run = r.run; prints = r.prints }
-runs_in names n tag None Empty list tagged w other qwik fits hooked ids room =
-    let r = without_signal names n tag list tagged 47 other (no_listener list fits) ids (omega arith) in
+runs_in names n tag None Empty list tagged w other qwik fits hooked events room =
+    let r = without_signal names n tag list tagged 47 other (no_listener list fits) events (omega arith) in
     record { entries = r.entries; run = r.run; prints = r.prints }
-runs_in names n tag None Shown list tagged w other qwik fits hooked ids room = absurd (false≢true fits)
+runs_in names n tag None Shown list tagged w other qwik fits hooked events room = absurd (false≢true fits)
 
 pub first_runs : FirstRun
-first_runs f fits ids room =
+first_runs f fits events room =
     let qwik = left (are_qwik_names (names_of f.imported)) (is_distinct (names_of f.imported)) (left _ _ fits.qwik) in
-    subst (λ (m : Module). RunsAsCounter m (counter_of f) ids) (sym (module_is f fits))
+    subst (λ (m : Module). RunsAsCounter m (counter_of f) events) (sym (module_is f fits))
     (runs_in (names_tree f.imported) f.name f.tag f.initial f.shape (listing f.attributes fits.attributed) (tag_holds f.tag fits.tagged) (word f.name (left _ _ (left _ _ fits.named)))
-    (no_app f.imported qwik) (names_of f.imported) fits.state (hook_listed f.imported) ids room)
+    (no_app f.imported qwik) (names_of f.imported) fits.state (hook_listed f.imported) events room)

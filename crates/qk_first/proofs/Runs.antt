@@ -15,11 +15,10 @@ use Rattle.qk_meaning.specs.Readings.{app_of}
 use Rattle.qk_meaning.specs.Settling.{due_hook}
 use Rattle.qk_meaning.specs.Session.{session_in}
 use Rattle.qk_meaning.specs.Item.{Event, Limits, records_of}
-use Rattle.qk_meaning.specs.Run.{Entry, Played, Run_from, played_all, played, Run, rendered}
+use Rattle.qk_meaning.specs.Run.{Happens, Entry, Played, Run_from, played_all, played, Run, rendered}
 use Rattle.qk_meaning.specs.Html.{written}
 use Rattle.qk_meaning.specs.Output.{printed_char, line, block_text, output_from, output}
-use Rattle.qk_first.specs.Counter.{Counter, has_id, listener, hears, moved, first_html, item_line, html_line, first_blocks, first_output}
-use Rattle.qk_first.specs.Laws.{click}
+use Rattle.qk_first.specs.Counter.{Counter, clicks_it, listener, hears, moved, first_html, item_line, html_line, first_blocks, first_output}
 use Rattle.qk_first.proofs.Words.{component_site, listener_site}
 use Rattle.qk_first.proofs.Listener.{value_in}
 use Rattle.qk_first.proofs.Plain.{written_printed}
@@ -41,8 +40,8 @@ block_is : (c : Counter) (p : Program) (k : ℕ) (found_none : Bool) (v : ℤ) (
 block_is c p k true v w h = ap (λ (t : Text). item_line k ++ (line (codes "none") ++ line (codes "html " ++ t))) h
 block_is c p k false v w h = ap (λ (t : Text). item_line k ++ line (codes "html " ++ t)) h
 
--- what is printed for an id and the ids behind it, by who hears it
-abbrev next_blocks : Counter → ℕ → ℤ → List Text → Option Bool → Text
+-- what is printed of an event and those behind it, by who hears it
+abbrev next_blocks : Counter → ℕ → ℤ → List Event → Option Bool → Text
 next_blocks c k v more heard =
     elim heard [
       | Some up ↦ (item_line k ++ html_line c (moved up v)) ++ first_blocks c (suc k) (moved up v) more
@@ -91,37 +90,34 @@ module _ (p : Program) (levels : ℕ) (c : Counter) (n : Text) (list : Listing c
         ≡ Gives (Int v) (run_in (moved (up_of c.attributes) v) (log ++ more) turns (trace log) Outside)
 
   -- the run from an item on, and what is printed of it
-  record RunsFrom (k : ℕ) (v : ℤ) (log : List Loc) (reads : List Read) (ids : List Text) : Type 0 where
+  record RunsFrom (k : ℕ) (v : ℤ) (log : List Loc) (reads : List Read) (events : List Event) : Type 0 where
     entries : List Entry
-    run : Run_from p (λ w. w) (world v log reads) (map click ids) entries
-    prints : output_from p k entries ≡ first_blocks c k v ids
+    run : Run_from p (λ w. w) (world v log reads) (map Happens events) entries
+    prints : output_from p k entries ≡ first_blocks c k v events
 
   module _ (does : Does) where
-    abbrev event_of : Text → Event
-    event_of id = record { kind = codes "click"; id = id; value = None }
-
     printed_is : (v : ℤ) → written printed_char (first_html c v) ≡ first_html c v
     printed_is v = written_printed (first_html c v) (html_printed c n list tagged v)
 
-    -- nothing hears the click
-    unheard : (id : Text) (ids : List Text) (k : ℕ) (v : ℤ) (log : List Loc) (reads : List Read) → if_both (has_id id c.attributes) (has_listener c.attributes) (own_listener n) ≡ None → hears c id ≡ None
-        → RunsFrom (suc k) v log reads ids → RunsFrom k v log reads (id ∷ ids)
-    unheard id ids k v log reads unfound silent r = record {
+    -- nothing hears the event
+    unheard : (e : Event) (events : List Event) (k : ℕ) (v : ℤ) (log : List Loc) (reads : List Read) → if_both (clicks_it c e) (has_listener c.attributes) (own_listener n) ≡ None → hears c e ≡ None
+        → RunsFrom (suc k) v log reads events → RunsFrom k v log reads (e ∷ events)
+    unheard e events k v log reads unfound silent r = record {
       entries = Played (record { none = true; lines = []; html = first_html c v }) (world v log reads) ∷ r.entries;
       run = played limits (record { none = true; lines = []; html = first_html c v }) (session_in (world v log reads) 100)
-          (passes.unheard p levels page app idle does.again (first_html c) (fits c n list tagged) (event_of id) v log reads 100 (heard_is c n id list v ∙ unfound))
+          (passes.unheard p levels page app idle does.again (first_html c) (fits c n list tagged) e v log reads 100 (heard_is c n e list v ∙ unfound))
           r.run;
       prints = ap (λ (t : Text). t ++ output_from p (suc k) r.entries) (block_is c p k true v (world v log reads) (printed_is v))
           ∙ ap (λ (t : Text). (item_line k ++ (line (codes "none") ++ html_line c v)) ++ t) r.prints
-          ∙ ap (next_blocks c k v ids) (sym silent);
+          ∙ ap (next_blocks c k v events) (sym silent);
     }
 
     -- the listener hears the click, and the number moves
-    heard : (id : Text) (ids : List Text) (k : ℕ) (v : ℤ) (log : List Loc) (reads : List Read) → has_listener c.attributes ≡ true
-        → if_both (has_id id c.attributes) (has_listener c.attributes) (own_listener n) ≡ Some (own_listener n) → hears c id ≡ Some (up_of c.attributes)
+    heard : (e : Event) (events : List Event) (k : ℕ) (v : ℤ) (log : List Loc) (reads : List Read) → has_listener c.attributes ≡ true
+        → if_both (clicks_it c e) (has_listener c.attributes) (own_listener n) ≡ Some (own_listener n) → hears c e ≡ Some (up_of c.attributes)
         → safe (moved (up_of c.attributes) v) ≡ Is (Int (moved (up_of c.attributes) v))
-        → RunsFrom (suc k) (moved (up_of c.attributes) v) (log ++ more) (own_reads (happens (length (log ++ more)))) ids → RunsFrom k v log reads (id ∷ ids)
-    heard id ids k v log reads listens found hearing stays r =
+        → RunsFrom (suc k) (moved (up_of c.attributes) v) (log ++ more) (own_reads (happens (length (log ++ more)))) events → RunsFrom k v log reads (e ∷ events)
+    heard e events k v log reads listens found hearing stays r =
         let u = moved (up_of c.attributes) v in
         let behind = log ++ more in
         let next = own_reads (happens (length behind)) in
@@ -130,49 +126,49 @@ module _ (p : Program) (levels : ℕ) (c : Counter) (n : Text) (list : Listing c
           run = played limits (record { none = false; lines = []; html = first_html c u })
               (passes.session p levels page app idle u behind [] 98 (trace log ++ happens (length behind)) (passes.stood p levels page app idle (view u) next ∷ []) [] false)
               (passes.heard_at p levels page app idle does.again (first_html c) (fits c n list tagged)
-              (event_of id) (own_listener n) (Int v) v u log behind reads 98 (trace log) (heard_is c n id list v ∙ found) (does.counts listens v (records_of (event_of id)) log 99 stays))
+              e (own_listener n) (Int v) v u log behind reads 98 (trace log) (heard_is c n e list v ∙ found) (does.counts listens v (records_of e) log 99 stays))
               r.run;
           prints = ap (λ (t : Text). t ++ output_from p (suc k) r.entries) (block_is c p k false u (world u behind next) (printed_is u))
               ∙ ap (λ (t : Text). (item_line k ++ html_line c u) ++ t) r.prints
-              ∙ ap (next_blocks c k v ids) (sym hearing);
+              ∙ ap (next_blocks c k v events) (sym hearing);
         }
 
-    runs_from : (ids : List Text) (k : ℕ) (v : ℤ) (log : List Loc) (reads : List Read) → nat_abs v + length ids ≤ 2000000 → RunsFrom k v log reads ids
+    runs_from : (events : List Event) (k : ℕ) (v : ℤ) (log : List Loc) (reads : List Read) → nat_abs v + length events ≤ 2000000 → RunsFrom k v log reads events
     runs_from [] k v log reads room = record { entries = []; run = played_all; prints = refl }
-    runs_from (id ∷ ids) k v log reads room =
-        go (has_id id c.attributes) (has_listener c.attributes) refl refl
-        (runs_from ids (suc k) (moved (up_of c.attributes) v) (log ++ more) (own_reads (happens (length (log ++ more)))) (omega (arith, near (up_of c.attributes) v)))
-        (runs_from ids (suc k) v log reads (omega arith))
+    runs_from (event ∷ events) k v log reads room =
+        go (clicks_it c event) (has_listener c.attributes) refl refl
+        (runs_from events (suc k) (moved (up_of c.attributes) v) (log ++ more) (own_reads (happens (length (log ++ more)))) (omega (arith, near (up_of c.attributes) v)))
+        (runs_from events (suc k) v log reads (omega arith))
       where
         hears_if : Bool → Bool → Option Bool
         hears_if a b = elim a [ true ↦ elim b [ true ↦ Some (up_of c.attributes) | false ↦ None ] | false ↦ None ]
 
-        hearing : (a b : Bool) → has_id id c.attributes ≡ a → has_listener c.attributes ≡ b → hears c id ≡ hears_if a b
+        hearing : (a b : Bool) → clicks_it c event ≡ a → has_listener c.attributes ≡ b → hears c event ≡ hears_if a b
         hearing a b e f =
-            ap (λ (o : Option Bool). elim (has_id id c.attributes) [ true ↦ o | false ↦ None ]) (listener_is c.attributes)
+            ap (λ (o : Option Bool). elim (clicks_it c event) [ true ↦ o | false ↦ None ]) (listener_is c.attributes)
             ∙ ap (λ (x : Bool). hears_if x (has_listener c.attributes)) e
             ∙ ap (λ (x : Bool). hears_if a x) f
 
-        finding : (a b : Bool) → has_id id c.attributes ≡ a → has_listener c.attributes ≡ b → if_both (has_id id c.attributes) (has_listener c.attributes) (own_listener n) ≡ if_both a b (own_listener n)
+        finding : (a b : Bool) → clicks_it c event ≡ a → has_listener c.attributes ≡ b → if_both (clicks_it c event) (has_listener c.attributes) (own_listener n) ≡ if_both a b (own_listener n)
         finding a b e f = ap (λ (x : Bool). if_both x (has_listener c.attributes) (own_listener n)) e ∙ ap (λ (x : Bool). if_both a x (own_listener n)) f
 
-        go : (a b : Bool) → has_id id c.attributes ≡ a → has_listener c.attributes ≡ b
-            → RunsFrom (suc k) (moved (up_of c.attributes) v) (log ++ more) (own_reads (happens (length (log ++ more)))) ids → RunsFrom (suc k) v log reads ids → RunsFrom k v log reads (id ∷ ids)
-        go true true e f r s = heard id ids k v log reads f (finding true true e f) (hearing true true e f) (is_safe (up_of c.attributes) v (length ids) (omega arith)) r
-        go true false e f r s = unheard id ids k v log reads (finding true false e f) (hearing true false e f) s
-        go false b e f r s = unheard id ids k v log reads (finding false b e f) (hearing false b e f) s
+        go : (a b : Bool) → clicks_it c event ≡ a → has_listener c.attributes ≡ b
+            → RunsFrom (suc k) (moved (up_of c.attributes) v) (log ++ more) (own_reads (happens (length (log ++ more)))) events → RunsFrom (suc k) v log reads events → RunsFrom k v log reads (event ∷ events)
+        go true true e f r s = heard event events k v log reads f (finding true true e f) (hearing true true e f) (is_safe (up_of c.attributes) v (length events) (omega arith)) r
+        go true false e f r s = unheard event events k v log reads (finding true false e f) (hearing true false e f) s
+        go false b e f r s = unheard event events k v log reads (finding false b e f) (hearing false b e f) s
 
     -- the whole run, from the first render on
-    pub record RunsWhole (ids : List Text) : Type 0 where
+    pub record RunsWhole (events : List Event) : Type 0 where
       pub entries : List Entry
-      pub run : Run p (λ w. w) (map click ids) entries
-      pub prints : output p entries ≡ first_output c ids
+      pub run : Run p (λ w. w) (map Happens events) entries
+      pub prints : output p entries ≡ first_output c events
 
     pub runs_whole : (mounts : (turns : ℕ) → entering p levels Pure [] (Closure component_site end false) (Ref 0 ∷ [])
         (record { heap = Props end ∷ []; log = []; lines = []; turns = suc turns; trace = []; locals = end; hooking = Mounting [] [] [] }) ≡ Gives (view c.initial) (run_in c.initial [] turns (happens 0) (Mounting [] [] hooks)))
-        → (ids : List Text) → nat_abs c.initial + length ids ≤ 2000000 → RunsWhole ids
-    runs_whole mounts ids room =
-        let r = runs_from ids 1 c.initial [] (own_reads (happens 0)) room in
+        → (events : List Event) → nat_abs c.initial + length events ≤ 2000000 → RunsWhole events
+    runs_whole mounts events room =
+        let r = runs_from events 1 c.initial [] (own_reads (happens 0)) room in
         record {
           entries = Played (record { none = false; lines = []; html = first_html c c.initial }) (world c.initial [] (own_reads (happens 0))) ∷ r.entries;
           run = rendered limits (record { none = false; lines = []; html = first_html c c.initial })

@@ -1,9 +1,10 @@
--- A counter: one element, whose click moves a number up or down by one, and what is printed when a script clicks at ids.
-use Rattle.std.specs.Prelude.{ℕ, suc, ℤ, pos, ◌+ℤ◌, ◌-ℤ◌, Bool, true, false, List, [], ◌∷◌, ◌++◌, Option, Some, None, codes}
+-- A counter: one element, whose click moves a number up or down by one, and what is printed of a list of events.
+use Rattle.std.specs.Prelude.{ℕ, suc, ℤ, pos, ◌+ℤ◌, ◌-ℤ◌, Bool, true, false, ◌&&◌, List, [], ◌∷◌, ◌++◌, Option, Some, None, codes}
 use Rattle.qk_ast.specs.Characters.{Characters, number_after}
 use Rattle.qk_ast.specs.First.{First_text, First_attribute, Id, On_click, Shape, Shown}
 use Rattle.qk_meaning.specs.Value.{Text}
 use Rattle.qk_meaning.specs.Texts.{same_text, decimal, integer_text}
+use Rattle.qk_meaning.specs.Item.{Event}
 use Rattle.qk_meaning.specs.Output.{line}
 
 pub record Counter : Type 0 where
@@ -44,7 +45,7 @@ shown_number c n = elim c.shows [ true ↦ integer_text n | false ↦ [] ]
 abbrev pub first_html : Counter → ℤ → Text
 first_html c n = codes "<" ++ (c.tag ++ (attributes_html c.attributes ++ (codes ">" ++ (shown_number c n ++ (codes "</" ++ (c.tag ++ codes ">"))))))
 
--- ---- a click
+-- ---- an event
 
 abbrev pub has_id : Text → List First_attribute → Bool
 has_id id [] = false
@@ -56,9 +57,13 @@ listener [] = None
 listener (Id w ∷ more) = listener more
 listener (On_click up ∷ more) = Some up
 
--- the listener that hears a click at this id, as whether it counts up; none where the element has another id or no listener
-abbrev pub hears : Counter → Text → Option Bool
-hears c id = elim (has_id id c.attributes) [ true ↦ listener c.attributes | false ↦ None ]
+-- the event is a click at the element; its value doesn't matter
+abbrev pub clicks_it : Counter → Event → Bool
+clicks_it c e = same_text e.kind (codes "click") && has_id e.id c.attributes
+
+-- the listener that hears the event, as whether it counts up; none where the event is of another kind or at another id, or the element has no listener
+abbrev pub hears : Counter → Event → Option Bool
+hears c e = elim (clicks_it c e) [ true ↦ listener c.attributes | false ↦ None ]
 
 abbrev pub moved : Bool → ℤ → ℤ
 moved true n = n +ℤ pos 1
@@ -72,15 +77,15 @@ item_line k = line (codes "item " ++ decimal k)
 abbrev pub html_line : Counter → ℤ → Text
 html_line c n = line (codes "html " ++ first_html c n)
 
--- the blocks of the clicks at these ids, the first being item k, where the number is n before them
-abbrev pub first_blocks : Counter → ℕ → ℤ → List Text → Text
+-- the blocks of these events, the first being item k, where the number is n before them
+abbrev pub first_blocks : Counter → ℕ → ℤ → List Event → Text
 first_blocks c k n [] = []
-first_blocks c k n (id ∷ more) =
-    elim (hears c id) [
+first_blocks c k n (e ∷ more) =
+    elim (hears c e) [
       | Some up ↦ (item_line k ++ html_line c (moved up n)) ++ first_blocks c (suc k) (moved up n) more
       | None ↦ (item_line k ++ (line (codes "none") ++ html_line c n)) ++ first_blocks c (suc k) n more
     ]
 
--- all that is printed when a script clicks at these ids: the first render is item 0
-abbrev pub first_output : Counter → List Text → Text
-first_output c ids = (item_line 0 ++ html_line c c.initial) ++ first_blocks c 1 c.initial ids
+-- all that is printed of these events: the first render is item 0
+abbrev pub first_output : Counter → List Event → Text
+first_output c events = (item_line 0 ++ html_line c c.initial) ++ first_blocks c 1 c.initial events

@@ -3,7 +3,7 @@
 
 ghost use Rattle.qk_first.specs.Laws.{FirstRun};
 
-/// The run of a module of the first form, whose script clicks at ids, prints what its counter prints.
+/// The run of a module of the first form under any list of events prints what its counter prints.
 pub fn first_run()
     ensures { FirstRun }
 {}
