@@ -2,16 +2,22 @@
 use Rattle.std.specs.Prelude.{◌≡◌, ◌≤◌, ◌<◌, ℕ, suc, List, [], ◌∷◌, ◌++◌, length, string_bytes}
 use Rattle.std.specs.Option.{option_map}
 use Rattle.qk_meaning.specs.Value.{Text}
+use Rattle.qk_meaning.specs.Item.{Event}
 use Rattle.qk_meaning.specs.Run.{Line, Happens, Pauses}
+use Rattle.qk_script.specs.declared.item.Event.{Event as Kept}
 use Rattle.qk_script.specs.declared.item.ScriptItem.{ScriptItem}
 use Rattle.qk_script.specs.declared.item.ScriptItem.TheVariants as item
 use Rattle.qk_script.specs.declared.fault.ScriptFault.{ScriptFault}
 use Rattle.qk_script.specs.declared.fault.ScriptFault.TheVariants as fault
 use Rattle.qk_script.specs.Script.{lines_of, IsLine, TextSpells}
 
+-- the event that is kept so
+abbrev pub event_of : Kept → Event
+event_of e = record { kind = string_bytes e.kind; id = string_bytes e.id; value = option_map string_bytes e.value }
+
 -- the item that is kept so
 abbrev pub item_of : ScriptItem → Line
-item_of (item.Event e) = Happens (record { kind = string_bytes e.kind; id = string_bytes e.id; value = option_map string_bytes e.value })
+item_of (item.Event e) = Happens (event_of e)
 item_of item.Pause = Pauses
 
 -- these are lines of a script, all of them

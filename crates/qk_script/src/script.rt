@@ -6,10 +6,8 @@ ghost use Rattle.qk_script.specs.Adding.{Adds};
 use crate::fault::ScriptFault;
 use crate::item::{ScriptItem, read_item};
 use crate::lines::{first_line, line_content};
+use qk_base::limits;
 use std::alloc::{AllocError, Global};
-
-/// The most items of a script.
-const MOST_ITEMS: usize = 65_536;
 
 /// The items of a script. Its lines end with a line feed, the last one needs none; a final carriage return is dropped, and an empty
 /// line is skipped. Each other line is `pause`, `EVENT ID` or `EVENT ID VALUE`.
@@ -30,7 +28,7 @@ pub fn parse_script(alloc: Global, text: &str) -> Result<Vec<ScriptItem>, Script
         }
         rest = after;
     }
-    if MOST_ITEMS < items.len() {
+    if limits::SCRIPT_ITEMS < items.len() {
         return Err(ScriptFault::TooMany);
     }
     Ok(items)
