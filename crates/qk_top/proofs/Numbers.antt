@@ -5,7 +5,7 @@ use lib.Signed.{mag}
 use Rattle.std.specs.Fmt as fmt
 use Rattle.std.proofs.lemmas.Fmt.{PrependsLastDigit, decimal_from_prepends, length-decimal-le}
 use Rattle.qk_meaning.specs.Texts.{digits_before, decimal, integer_text}
-use Rattle.qk_top.specs.Blocks.{count_text, number_text}
+use Rattle.qk_top.specs.Decimals.{count_text, number_text}
 
 below_ten : (n : ℕ) → n < 10 → ltb n 10 ≡ true
 below_ten n h = grind (arith, h)

@@ -3,10 +3,11 @@ use Rattle.std.proofs.Common.{◌≡◌, ℕ, suc, List, [], ◌∷◌, ◌++◌
 use Rattle.std.specs.Prelude.{codes}
 use Rattle.std.specs.Option.{option_map}
 use Rattle.qk_meaning.specs.Value.{Text}
-use Rattle.qk_meaning.specs.Texts.{integer_text}
+use Rattle.qk_meaning.specs.Item.{Event}
 use Rattle.qk_meaning.specs.Output.{line}
 use Rattle.qk_first.specs.Counter.{Counter, hears, moved, first_html, html_line, item_line, first_blocks, first_output, attributes_html, shown_number}
-use Rattle.qk_top.specs.Blocks.{count_text, number_text, id_text, shown_text, item_text, html_text, opening_text, closing_text, moved_text, click_text, clicks_texts, first_text, played_text, moves, clicked}
+use Rattle.qk_top.specs.Decimals.{count_text, number_text}
+use Rattle.qk_top.specs.Blocks.{id_text, shown_text, item_text, html_text, opening_text, closing_text, moved_text, event_text, events_text, first_text, played_text}
 
 item_is : (k : ℕ) → item_text k ≡ item_line k
 unfolding count_text
@@ -25,14 +26,14 @@ html_is : (c : Counter) (n : ℤ) → html_text c n ≡ html_line c n
 unfolding html_text id_text
 html_is c n = ap (λ s. opening_text c ++ (s ++ closing_text c)) (shown_is c n) ∙ line_is c.tag (attributes_html c.attributes) (shown_number c n)
 
--- the block of one click and those behind it, by what hears the click
+-- the block of one event and those behind it, by what hears it
 heard_blocks : (c : Counter) (k : ℕ) (n : ℤ) (rest : ℕ → ℤ → Text) → Option Bool → Text
 heard_blocks c k n rest (Some up) = (item_line k ++ html_line c (moved up n)) ++ rest (suc k) (moved up n)
 heard_blocks c k n rest None = (item_line k ++ (line (codes "none") ++ html_line c n)) ++ rest (suc k) n
 
-blocks_heard : (c : Counter) (k : ℕ) (n : ℤ) (id : Text) (more : List Text) → first_blocks c k n (id ∷ more) ≡ heard_blocks c k n (λ j m. first_blocks c j m more) (hears c id)
+blocks_heard : (c : Counter) (k : ℕ) (n : ℤ) (e : Event) (more : List Event) → first_blocks c k n (e ∷ more) ≡ heard_blocks c k n (λ j m. first_blocks c j m more) (hears c e)
 unfolding heard_blocks
-blocks_heard c k n id more = by_cases (hears c id)
+blocks_heard c k n e more = by_cases (hears c e)
   where
     by_cases : (h : Option Bool) → elim h as (λ _. Text) [
       | Some up ↦ (item_line k ++ html_line c (moved up n)) ++ first_blocks c (suc k) (moved up n) more
@@ -54,22 +55,22 @@ unfolding heard_blocks
 rest_heard c k n first second (Some up) same = ap (λ t. (item_line k ++ html_line c (moved up n)) ++ t) (same (suc k) (moved up n))
 rest_heard c k n first second None same = ap (λ t. (item_line k ++ (line (codes "none") ++ html_line c n)) ++ t) (same (suc k) n)
 
-blocks_are : (c : Counter) (ids : List Text) (k : ℕ) (n : ℤ) → clicks_texts c k n ids ≡ first_blocks c k n ids
-unfolding clicks_texts click_text
+blocks_are : (c : Counter) (events : List Event) (k : ℕ) (n : ℤ) → events_text c k n events ≡ first_blocks c k n events
+unfolding events_text event_text
 blocks_are c [] k n = refl
-blocks_are c (id ∷ more) k n = texts_heard c k n (λ j m. clicks_texts c j m more) (hears c id)
-    ∙ rest_heard c k n _ _ (hears c id) (λ j m. blocks_are c more j m) ∙ sym (blocks_heard c k n id more)
+blocks_are c (e ∷ more) k n = texts_heard c k n (λ j m. events_text c j m more) (hears c e)
+    ∙ rest_heard c k n _ _ (hears c e) (λ j m. blocks_are c more j m) ∙ sym (blocks_heard c k n e more)
 
-pub output_is : (c : Counter) (ids : List Text) → played_text c ids ≡ first_output c ids
+pub output_is : (c : Counter) (events : List Event) → played_text c events ≡ first_output c events
 unfolding played_text first_text
-output_is c ids = ap (λ t. (t ++ html_text c c.initial) ++ clicks_texts c 1 c.initial ids) (item_is 0)
-    ∙ ap (λ t. (item_line 0 ++ t) ++ clicks_texts c 1 c.initial ids) (html_is c c.initial)
-    ∙ ap (λ t. (item_line 0 ++ html_line c c.initial) ++ t) (blocks_are c ids 1 c.initial)
+output_is c events = ap (λ t. (t ++ html_text c c.initial) ++ events_text c 1 c.initial events) (item_is 0)
+    ∙ ap (λ t. (item_line 0 ++ t) ++ events_text c 1 c.initial events) (html_is c c.initial)
+    ∙ ap (λ t. (item_line 0 ++ html_line c c.initial) ++ t) (blocks_are c events 1 c.initial)
 
 -- ---- counters that differ in the order of their attributes alone
 
 pub record Alike (c d : Counter) : Type 0 where
-  pub hear : (id : Text) → hears c id ≡ hears d id
+  pub hear : (e : Event) → hears c e ≡ hears d e
   pub show : (n : ℤ) → html_line c n ≡ html_line d n
   pub start : c.initial ≡ d.initial
 
@@ -78,12 +79,12 @@ unfolding heard_blocks
 alike_heard c d k n rest (Some up) alike = ap (λ t. (item_line k ++ t) ++ rest (suc k) (moved up n)) (alike.show (moved up n))
 alike_heard c d k n rest None alike = ap (λ t. (item_line k ++ (line (codes "none") ++ t)) ++ rest (suc k) n) (alike.show n)
 
-alike_blocks : (c d : Counter) → Alike c d → (ids : List Text) (k : ℕ) (n : ℤ) → first_blocks c k n ids ≡ first_blocks d k n ids
+alike_blocks : (c d : Counter) → Alike c d → (events : List Event) (k : ℕ) (n : ℤ) → first_blocks c k n events ≡ first_blocks d k n events
 alike_blocks c d alike [] k n = refl
-alike_blocks c d alike (id ∷ more) k n = blocks_heard c k n id more ∙ ap (heard_blocks c k n (λ j m. first_blocks c j m more)) (alike.hear id)
-    ∙ rest_heard c k n _ _ (hears d id) (λ j m. alike_blocks c d alike more j m) ∙ alike_heard c d k n (λ j m. first_blocks d j m more) (hears d id) alike
-    ∙ sym (blocks_heard d k n id more)
+alike_blocks c d alike (e ∷ more) k n = blocks_heard c k n e more ∙ ap (heard_blocks c k n (λ j m. first_blocks c j m more)) (alike.hear e)
+    ∙ rest_heard c k n _ _ (hears d e) (λ j m. alike_blocks c d alike more j m) ∙ alike_heard c d k n (λ j m. first_blocks d j m more) (hears d e) alike
+    ∙ sym (blocks_heard d k n e more)
 
-pub alike_output : (c d : Counter) → Alike c d → (ids : List Text) → first_output c ids ≡ first_output d ids
-alike_output c d alike ids = ap (λ t. (item_line 0 ++ t) ++ first_blocks c 1 c.initial ids) (alike.show c.initial ∙ ap (html_line d) alike.start)
-    ∙ ap (λ t. (item_line 0 ++ html_line d d.initial) ++ t) (alike_blocks c d alike ids 1 c.initial ∙ ap (λ n. first_blocks d 1 n ids) alike.start)
+pub alike_output : (c d : Counter) → Alike c d → (events : List Event) → first_output c events ≡ first_output d events
+alike_output c d alike events = ap (λ t. (item_line 0 ++ t) ++ first_blocks c 1 c.initial events) (alike.show c.initial ∙ ap (html_line d) alike.start)
+    ∙ ap (λ t. (item_line 0 ++ html_line d d.initial) ++ t) (alike_blocks c d alike events 1 c.initial ∙ ap (λ n. first_blocks d 1 n events) alike.start)

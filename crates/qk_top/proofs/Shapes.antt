@@ -117,7 +117,7 @@ plays_as f fits n kept children shown k =
     let same = kept_counter kept f.tag (id_of f.attributes) (listener f.attributes) (initial_of f.initial) (is_shown f.shape) k.tag_is
     (id_read kept _ _ _ n f.name attributes k) (listener_read kept _ _ _ n f.name attributes k) k.initial_is (k.shows ∙ shown) in
     record {
-      printed = λ ids. output_is (counter_in kept) ids ∙ ap (λ c. first_output c ids) same ∙ alike_output _ _ (alike f.tag (initial_of f.initial) (is_shown f.shape) attributes) ids;
+      printed = λ events. output_is (counter_in kept) events ∙ ap (λ c. first_output c events) same ∙ alike_output _ _ (alike f.tag (initial_of f.initial) (is_shown f.shape) attributes) events;
       small = subst (λ i. mag i ≤ 1000000) (sym k.initial_is) (small_initial f fits);
     }
 

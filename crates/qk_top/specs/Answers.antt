@@ -4,11 +4,12 @@ use Rattle.qk_ast.specs.declared.Module.{Module}
 use Rattle.qk_ast.specs.First.{HasFirstForm}
 use Rattle.qk_store.specs.Files.{Files}
 use Rattle.qk_meaning.specs.Value.{Text}
-use Rattle.qk_meaning.specs.Run.{Entry, Run}
+use Rattle.qk_meaning.specs.Item.{Event}
+use Rattle.qk_meaning.specs.Run.{Happens, Entry, Run}
 use Rattle.qk_meaning.specs.Output.{line, output}
-use Rattle.qk_first.specs.Laws.{application_of, click}
+use Rattle.qk_first.specs.Laws.{application_of}
 use Rattle.qk_top.specs.Words.{IsReplay}
-use Rattle.qk_top.specs.Script.{IsFirstScript}
+use Rattle.qk_top.specs.Script.{SpellsEvents, RefusedText}
 
 abbrev pub root_name : Text
 root_name = codes "root.jsx"
@@ -17,45 +18,45 @@ root_name = codes "root.jsx"
 abbrev pub IsUsage : List Text → Type 0
 IsUsage words = (script : Text) → ¬ IsReplay words script
 
--- the words are `replay` and the name of a file that is a script of the first form, which clicks at these ids
-pub record Plays (words : List Text) (told : Files) (ids : List Text) : Type 0 where
+-- the words are `replay` and the name of a file that is a script of these events
+pub record Plays (words : List Text) (told : Files) (events : List Event) : Type 0 where
   pub script : Text
   pub text : Text
   pub command : IsReplay words script
   pub stands : told script ≡ Some text
-  pub clicks : IsFirstScript text ids
+  pub spells : SpellsEvents text events
 
 -- the script is refused as this
 pub data RefusedScript (words : List Text) (told : Files) : Text → Type 0 where
   gone_script : {script : Text} → IsReplay words script → told script ≡ None → RefusedScript words told (codes "ScriptMissing")
-  refused_script : {script text : Text} → IsReplay words script → told script ≡ Some text → ((ids : List Text) → ¬ IsFirstScript text ids) → RefusedScript words told (codes "NotBuilt")
+  refused_script : {script text kind : Text} → IsReplay words script → told script ≡ Some text → RefusedText text kind → RefusedScript words told kind
 
 -- the application is refused as this
 pub data RefusedApplication (words : List Text) (told : Files) : Text → Type 0 where
-  gone_root : {ids : List Text} → Plays words told ids → told root_name ≡ None → RefusedApplication words told (codes "RootMissing")
-  refused_root : {ids : List Text} {source : Text} → Plays words told ids → told root_name ≡ Some source → ((m : Module) → ¬ HasFirstForm source m) → RefusedApplication words told (codes "NotBuilt")
+  gone_root : {events : List Event} → Plays words told events → told root_name ≡ None → RefusedApplication words told (codes "RootMissing")
+  refused_root : {events : List Event} {source : Text} → Plays words told events → told root_name ≡ Some source → ((m : Module) → ¬ HasFirstForm source m) → RefusedApplication words told (codes "NotBuilt")
 
 -- the application is accepted: `root.jsx` derives this module
-pub record IsAccepted (words : List Text) (told : Files) (m : Module) (ids : List Text) : Type 0 where
-  pub plays : Plays words told ids
+pub record IsAccepted (words : List Text) (told : Files) (m : Module) (events : List Event) : Type 0 where
+  pub plays : Plays words told events
   pub source : Text
   pub stands : told root_name ≡ Some source
   pub derives : HasFirstForm source m
 
 -- what is printed of the run of the original module
-pub record IsOutput (m : Module) (ids : List Text) (text : Text) : Type 0 where
+pub record IsOutput (m : Module) (events : List Event) (text : Text) : Type 0 where
   pub entries : List Entry
-  pub run : Run (application_of m) (λ w. w) (map click ids) entries
+  pub run : Run (application_of m) (λ w. w) (map Happens events) entries
   pub printed : text ≡ output (application_of m) entries
 
 -- a front of what is printed where the command is accepted, or nothing
 pub data IsFront (words : List Text) (told : Files) : Text → Type 0 where
   nothing : IsFront words told []
-  begun : {m : Module} {ids : List Text} {text : Text} (n : ℕ) → IsAccepted words told m ids → IsOutput m ids text → IsFront words told (take n text)
+  begun : {m : Module} {events : List Event} {text : Text} (n : ℕ) → IsAccepted words told m events → IsOutput m events text → IsFront words told (take n text)
 
 -- each status with its cause and all that is printed
 pub data Answers (words : List Text) (told : Files) : ℕ → Text → Type 0 where
-  played : {m : Module} {ids : List Text} {text : Text} → IsAccepted words told m ids → IsOutput m ids text → Answers words told 0 text
+  played : {m : Module} {events : List Event} {text : Text} → IsAccepted words told m events → IsOutput m events text → Answers words told 0 text
   usage : IsUsage words → Answers words told 1 (line (codes "usage"))
   application : {kind : Text} → RefusedApplication words told kind → Answers words told 2 (line (codes "refused " ++ (kind ++ codes " root -")))
   script : {kind : Text} → RefusedScript words told kind → Answers words told 5 (line (codes "refused " ++ kind))

@@ -5,6 +5,7 @@ use Rattle.qk_ast.specs.First.{HasFirstForm}
 use Rattle.qk_store.specs.Files.{Files}
 use Rattle.qk_store.specs.Pieces.{AppendsFront}
 use Rattle.qk_meaning.specs.Value.{Text}
+use Rattle.qk_meaning.specs.Item.{Event}
 use Rattle.qk_top.specs.declared.stop.ApplicationRefusal.TheVariants as application
 use Rattle.qk_top.specs.declared.stop.Stop.{Stop}
 use Rattle.qk_top.specs.declared.stop.Stop.TheVariants.{Usage, Script, Application, StoreFailed, SinkFailed, Memory}
@@ -12,29 +13,29 @@ use Rattle.qk_top.specs.Answers.{root_name, IsUsage, RefusedScript, RefusedAppli
 use Rattle.qk_top.specs.Stops.{script_kind, application_kind, IsPut}
 
 -- `root.jsx` derives a module, and this is what is printed of it
-pub record RootPlays (told : Files) (ids : List Text) (text : Text) : Type 0 where
+pub record RootPlays (told : Files) (events : List Event) (text : Text) : Type 0 where
   pub m : Module
   pub source : Text
   pub stands : told root_name ≡ Some source
   pub derives : HasFirstForm source m
-  pub printed : IsOutput m ids text
+  pub printed : IsOutput m events text
 
--- what comes of the application where a script clicks at these ids
-abbrev pub RootComes : Files → List Text → Option Text → Option Text → Result (Unit {0}) Stop → Type 0
-RootComes told ids before after (Ok _) = (text : Text) × RootPlays told ids text × IsPut text before after
-RootComes told ids before after (Err (Application application.RootMissing)) = (told root_name ≡ None) × (after ≡ before)
-RootComes told ids before after (Err (Application application.NotBuilt)) = ((source : Text) × (told root_name ≡ Some source) × ((m : Module) → ¬ HasFirstForm source m)) × (after ≡ before)
-RootComes told ids before after (Err StoreFailed) = after ≡ before
-RootComes told ids before after (Err SinkFailed) = (text : Text) × RootPlays told ids text × AppendsFront text before after
-RootComes told ids before after (Err Memory) = (after ≡ before) ⊎ ((text : Text) × RootPlays told ids text × AppendsFront text before after)
-RootComes told ids before after (Err _) = ⊥
+-- what comes of the application where a script has these events
+abbrev pub RootComes : Files → List Event → Option Text → Option Text → Result (Unit {0}) Stop → Type 0
+RootComes told events before after (Ok _) = (text : Text) × RootPlays told events text × IsPut text before after
+RootComes told events before after (Err (Application application.RootMissing)) = (told root_name ≡ None) × (after ≡ before)
+RootComes told events before after (Err (Application application.NotBuilt)) = ((source : Text) × (told root_name ≡ Some source) × ((m : Module) → ¬ HasFirstForm source m)) × (after ≡ before)
+RootComes told events before after (Err StoreFailed) = after ≡ before
+RootComes told events before after (Err SinkFailed) = (text : Text) × RootPlays told events text × AppendsFront text before after
+RootComes told events before after (Err Memory) = (after ≡ before) ⊎ ((text : Text) × RootPlays told events text × AppendsFront text before after)
+RootComes told events before after (Err _) = ⊥
 
 -- the command is accepted, and this is what is printed
 pub record CommandPlays (words : List Text) (told : Files) (text : Text) : Type 0 where
   pub m : Module
-  pub ids : List Text
-  pub accepted : IsAccepted words told m ids
-  pub printed : IsOutput m ids text
+  pub events : List Event
+  pub accepted : IsAccepted words told m events
+  pub printed : IsOutput m events text
 
 -- what comes of the words
 abbrev pub CommandComes : List Text → Files → Option Text → Option Text → Result (Unit {0}) Stop → Type 0

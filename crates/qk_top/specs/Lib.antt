@@ -1,5 +1,5 @@
 pub mod Words
-pub mod Lines
+pub mod Decimals
 pub mod Script
 pub mod Shape
 pub mod Blocks

@@ -3,8 +3,9 @@ use Rattle.std.specs.Prelude.{◌≡◌, ◌⊎◌, ℕ, List, Option}
 use Rattle.std.specs.Option.{option_map}
 use Rattle.qk_store.specs.Answers.{Content, bytes, Answer, with_answer}
 use Rattle.qk_meaning.specs.Value.{Text}
+use Rattle.qk_meaning.specs.Item.{Event}
 use Rattle.qk_top.specs.Words.{IsReplay}
-use Rattle.qk_top.specs.Script.{IsFirstScript}
+use Rattle.qk_top.specs.Script.{SpellsEvents}
 use Rattle.qk_top.specs.Answers.{root_name}
 
 -- this file was read, of at most 1 MiB, and this was answered
@@ -15,9 +16,9 @@ IsRead name found before after = after ≡ option_map (with_answer name 1048576 
 abbrev pub MayRead : Text → Option (List Answer) → Option (List Answer) → Type 0
 MayRead name before after = (after ≡ before) ⊎ ((found : Content) × IsRead name found before after)
 
--- nothing; or the script that the words name; or that, which has the first form, and then `root.jsx`
+-- nothing; or the script that the words name; or that, which is a script without a pause, and then `root.jsx`
 pub data ReadsInOrder (words : List Text) (before after : Option (List Answer)) : Type 0 where
   nothing : after ≡ before → ReadsInOrder words before after
   script : {name : Text} (found : Content) → IsReplay words name → IsRead name found before after → ReadsInOrder words before after
-  root_behind : {name text : Text} {ids : List Text} (found : Content) (between : Option (List Answer)) → IsReplay words name → IsFirstScript text ids → IsRead name (bytes text) before between → IsRead root_name found between after
+  root_behind : {name text : Text} {events : List Event} (found : Content) (between : Option (List Answer)) → IsReplay words name → SpellsEvents text events → IsRead name (bytes text) before between → IsRead root_name found between after
       → ReadsInOrder words before after

@@ -5,18 +5,19 @@ use Rattle.qk_store.specs.Files.{Files}
 use Rattle.qk_store.specs.Pieces.{AppendsFront}
 use Rattle.qk_store.specs.Causes.{Rose}
 use Rattle.qk_meaning.specs.Value.{Text}
+use Rattle.qk_meaning.specs.Item.{Event}
 use Rattle.qk_top.specs.Answers.{IsUsage, RefusedScript, RefusedApplication, IsAccepted, IsOutput, Answers}
 use Rattle.qk_top.specs.Stops.{IsPut}
 
 -- The headline: for an accepted application and script that were played, what is printed is the output of the run of the original module.
 abbrev pub Headline : List Text → Option Files → Option Text → Option Text → ℕ → Type 0
 Headline words files before after status =
-    (told : Files) (m : Module) (ids : List Text) → files ≡ Some told → IsAccepted words told m ids → status ≡ 0 → (text : Text) × IsOutput m ids text × IsPut text before after
+    (told : Files) (m : Module) (events : List Event) → files ≡ Some told → IsAccepted words told m events → status ≡ 0 → (text : Text) × IsOutput m events text × IsPut text before after
 
 -- Completeness: an accepted application and script are played, unless the outside failed or memory ran out.
 abbrev pub Complete : List Text → Option Files → ℕ → ℕ → ℕ → ℕ → ℕ → Type 0
 Complete words files store_before store_now sink_before sink_now status =
-    (told : Files) (m : Module) (ids : List Text) → files ≡ Some told → IsAccepted words told m ids
+    (told : Files) (m : Module) (events : List Event) → files ≡ Some told → IsAccepted words told m events
     → ¬ Rose store_before store_now → ¬ Rose sink_before sink_now → (status ≡ 0) ⊎ (status ≡ 8)
 
 -- What is printed: with each status but 7 its answer, whole.
@@ -36,6 +37,6 @@ IsOneOf status (s ∷ more) = (status ≡ s) ⊎ IsOneOf status more
 
 -- When each answer comes: where its cause holds, no status comes but its own, 6 and 7 of the outside, and 8 of memory.
 pub record Comes (words : List Text) (told : Files) (status : ℕ) : Type 0 where
-  pub accepted : (m : Module) (ids : List Text) → IsAccepted words told m ids → IsOneOf status (0 ∷ 6 ∷ 7 ∷ 8 ∷ [])
+  pub accepted : (m : Module) (events : List Event) → IsAccepted words told m events → IsOneOf status (0 ∷ 6 ∷ 7 ∷ 8 ∷ [])
   pub application : (kind : Text) → RefusedApplication words told kind → IsOneOf status (2 ∷ 6 ∷ 7 ∷ 8 ∷ [])
   pub script : (kind : Text) → RefusedScript words told kind → IsOneOf status (5 ∷ 6 ∷ 7 ∷ 8 ∷ [])

@@ -7,6 +7,7 @@ use Rattle.qk_ast.specs.declared.Expr.TheVariants as e
 use Rattle.qk_ast.specs.declared.Body.TheVariants as b
 use Rattle.qk_ast.specs.declared.Field.{Field}
 use Rattle.qk_meaning.specs.Value.{Text}
+use Rattle.qk_meaning.specs.Item.{Event}
 use Rattle.qk_first.specs.Counter.{Counter, first_output}
 use Rattle.qk_top.specs.declared.shape.Counter.{Counter as Kept}
 use Rattle.qk_top.specs.Shape.{attribute_named}
@@ -14,7 +15,7 @@ use Rattle.qk_top.specs.Blocks.{counter_in, played_text}
 
 -- what is kept is played as this counter
 pub record PlaysAs (kept : Kept) (counter : Counter) : Type 0 where
-  pub printed : (ids : List Text) → played_text (counter_in kept) ids ≡ first_output counter ids
+  pub printed : (events : List Event) → played_text (counter_in kept) events ≡ first_output counter events
   pub small : mag kept.initial ≤ 1000000
 
 abbrev pub has_child : List Expr → Bool

@@ -5,6 +5,7 @@ use Rattle.qk_store.specs.Causes.{Rose}
 use Rattle.qk_store.specs.Pieces.{with_piece, AppendsFront}
 use Rattle.qk_meaning.specs.Value.{Text}
 use Rattle.qk_meaning.specs.Output.{line}
+use Rattle.qk_top.specs.Decimals.{count_text}
 use Rattle.qk_top.specs.declared.stop.ScriptRefusal.{ScriptRefusal}
 use Rattle.qk_top.specs.declared.stop.ScriptRefusal.TheVariants as script
 use Rattle.qk_top.specs.declared.stop.ApplicationRefusal.{ApplicationRefusal}
@@ -14,6 +15,10 @@ use Rattle.qk_top.specs.declared.stop.Stop.TheVariants.{Usage, Script, Applicati
 
 abbrev pub script_kind : ScriptRefusal → Text
 script_kind script.Missing = codes "ScriptMissing"
+script_kind script.TooLong = codes "ScriptTooLong"
+script_kind script.NotUtf8 = codes "ScriptNotUtf8"
+script_kind (script.Line number) = codes "ScriptLine " ++ count_text number
+script_kind script.TooMany = codes "ScriptTooMany"
 script_kind script.NotBuilt = codes "NotBuilt"
 
 abbrev pub application_kind : ApplicationRefusal → Text

@@ -1,27 +1,32 @@
 ghost use Rattle.std.specs.Prelude.{◌≡◌, ◌++◌, ◌<◌, ◌^◌, IfOk, OnOk, string_bytes};
 ghost use Rattle.qk_first.specs.Counter.{hears};
-ghost use Rattle.qk_top.specs.Blocks.{counter_in, moves, clicked, moved_text, click_text, first_text, count_text, number_text, item_text, html_text, opening_text, closing_text, id_text, shown_text};
+ghost use Rattle.qk_script.specs.Answer.{event_of};
+ghost use Rattle.qk_top.specs.Blocks.{counter_in, moves, number_after, moved_text, event_text, first_text, item_text, html_text, opening_text, closing_text, id_text, shown_text};
 ghost use lib.Signed.{mag};
 
+use crate::digits::{push_count, push_number};
 use crate::shape::Counter;
+use qk_script::Event;
 use std::alloc::AllocError;
 
-/// How a click at the id moves the number: up where true, down where false, and none where nothing hears it.
-fn heard(counter: &Counter, id: &[u8]) -> Option<bool>
-    ensures { result ≡ hears (counter_in counter.now) id.now }
+/// How the event moves the number: up where true, down where false, and none where nothing hears it.
+fn heard(counter: &Counter, event: &Event) -> Option<bool>
+    ensures { result ≡ hears (counter_in counter.now) (event_of event.now) }
 {
     match counter.id {
-        Some(own) if own.as_str().as_bytes() == id => counter.counts_up,
+        Some(own) if event.kind.as_str() == "click" && own.as_str() == event.id.as_str() => {
+            counter.counts_up
+        }
         _ => None,
     }
 }
 
-/// The number after a click at the id, where it is heard.
-fn moved_number(counter: &Counter, id: &[u8], number: i64) -> Option<i64>
+/// The number after the event, where it is heard.
+fn moved_number(counter: &Counter, event: &Event, number: i64) -> Option<i64>
     requires { mag number < 2 ^ 40 }
-    ensures { result ≡ moves (counter_in counter.now) number id.now }
+    ensures { result ≡ moves (counter_in counter.now) number (event_of event.now) }
 {
-    match heard(counter, id)? {
+    match heard(counter, event)? {
         true => Some(number + 1),
         false => Some(number - 1),
     }
@@ -36,7 +41,7 @@ pub(crate) fn push_first(counter: &Counter, block: &mut String) -> Result<(), Al
     push_html_line(counter, counter.initial, block)
 }
 
-/// Appends what stands behind the first line of a click's block: the number moved to this, or nothing heard the click.
+/// Appends what stands behind the first line of an event's block: the number moved to this, or nothing heard the event.
 #[tactic(auto, unfolding(crate::specs::Blocks::moved_text))]
 fn push_moved(
     counter: &Counter,
@@ -55,20 +60,20 @@ fn push_moved(
     }
 }
 
-/// Appends the block of a click at the id, which is this item, where the number was this before it.
-#[tactic(auto, unfolding(crate::specs::Blocks::click_text))]
-pub(crate) fn push_click(
+/// Appends the block of an event, which is this item, where the number was this before it.
+#[tactic(auto, unfolding(crate::specs::Blocks::event_text))]
+pub(crate) fn push_event(
     counter: &Counter,
     item: u64,
-    id: &[u8],
+    event: &Event,
     number: i64,
     block: &mut String,
 ) -> Result<i64, AllocError>
     requires { mag number < 2 ^ 40 }
-    ensures number { IfOk result (λ after. after ≡ clicked (counter_in counter.now) number id.now) }
-    ensures block { OnOk result (string_bytes block.new ≡ string_bytes block.old ++ click_text (counter_in counter.now) item number id.now) }
+    ensures number { IfOk result (λ after. after ≡ number_after (counter_in counter.now) number (event_of event.now)) }
+    ensures block { OnOk result (string_bytes block.new ≡ string_bytes block.old ++ event_text (counter_in counter.now) item number (event_of event.now)) }
 {
-    let moved = moved_number(counter, id, number);
+    let moved = moved_number(counter, event, number);
     push_item_line(item, block)?;
     push_moved(counter, number, moved, block)?;
     Ok(moved.unwrap_or(number))
@@ -111,7 +116,6 @@ fn push_closing(counter: &Counter, block: &mut String) -> Result<(), AllocError>
 }
 
 /// Appends the number, where the element shows it.
-
 fn push_shown(counter: &Counter, number: i64, block: &mut String) -> Result<(), AllocError>
     ensures { OnOk result (string_bytes block.new ≡ string_bytes block.old ++ shown_text (counter_in counter.now) number) }
 {
@@ -119,20 +123,6 @@ fn push_shown(counter: &Counter, number: i64, block: &mut String) -> Result<(), 
         push_number(number, block)?;
     }
     Ok(())
-}
-
-/// Appends a count in digits.
-fn push_count(count: u64, block: &mut String) -> Result<(), AllocError>
-    ensures { OnOk result (string_bytes block.new ≡ string_bytes block.old ++ count_text count) }
-{
-    write!(block, "{count}")
-}
-
-/// Appends an integer in digits, with its sign.
-fn push_number(number: i64, block: &mut String) -> Result<(), AllocError>
-    ensures { OnOk result (string_bytes block.new ≡ string_bytes block.old ++ number_text number) }
-{
-    write!(block, "{number}")
 }
 
 /// Appends the element's id as an attribute, where it has one.

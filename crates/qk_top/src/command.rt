@@ -44,24 +44,27 @@ pub fn run<S: Store, K: Sink>(alloc: Global, words: &[String], store: &mut S, ou
 {
     match replay(alloc, words, store, out) {
         Ok(()) => 0,
-        Err(stop) => finish(stop, out),
+        Err(stop) => finish(alloc, stop, out),
     }
 }
 
 /// Puts the last line, and answers the status.
-fn finish<K: Sink>(stop: Stop, out: &mut K) -> u8
+fn finish<K: Sink>(alloc: Global, stop: Stop, out: &mut K) -> u8
     ensures { Finishes stop (K.bytes out.old) (K.bytes out.new) (K.faults out.old) (K.faults out.new) result }
 {
     match stop {
         Stop::SinkFailed => 7,
-        _ => put_last_line(stop, out),
+        _ => put_last_line(alloc, stop, out),
     }
 }
 
-fn put_last_line<K: Sink>(stop: Stop, out: &mut K) -> u8
+fn put_last_line<K: Sink>(alloc: Global, stop: Stop, out: &mut K) -> u8
     ensures { PutsLastLine stop (K.bytes out.old) (K.bytes out.new) (K.faults out.old) (K.faults out.new) result }
 {
-    match out.put(stop.last_line().as_bytes()) {
+    let Ok(line) = stop.last_line(alloc) else {
+        return 8;
+    };
+    match out.put(line.as_str().as_bytes()) {
         Ok(()) => stop.status(),
         Err(SinkFault::Failed) => 7,
         Err(SinkFault::Memory) => 8,

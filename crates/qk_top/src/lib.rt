@@ -3,6 +3,7 @@
 
 mod blocks;
 mod command;
+mod digits;
 mod play;
 mod replay;
 mod script;

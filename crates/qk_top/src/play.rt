@@ -2,32 +2,34 @@ ghost use Rattle.std.specs.Prelude.{◌≡◌, ◌≤◌, ◌<◌, ◌+◌, ◌^
 ghost use Rattle.std.specs.Option.{option_map};
 ghost use Rattle.qk_store.specs.Causes.{HasCause};
 ghost use Rattle.qk_store.specs.Pieces.{with_piece, AppendsFront};
-ghost use Rattle.qk_top.specs.Blocks.{counter_in, clicked, first_text, click_text, played_text};
+ghost use Rattle.qk_script.specs.Answer.{event_of};
+ghost use Rattle.qk_top.specs.Blocks.{counter_in, number_after, first_text, event_text, played_text};
 ghost use lib.Signed.{mag};
 
-use crate::blocks::{push_click, push_first};
+use crate::blocks::{push_event, push_first};
 use crate::shape::Counter;
+use qk_script::Event;
 use qk_store::{Sink, SinkFault};
 use std::alloc::Global;
 
-/// Plays a script that clicks at these ids: puts the block of the first render, then the block of each click, each as one piece.
+/// Plays these events: puts the block of the first render, then the block of each event, each as one piece.
 pub(crate) fn play<K: Sink>(
     alloc: Global,
     counter: &Counter,
-    clicks: &[&[u8]],
+    events: &[&Event],
     out: &mut K,
 ) -> Result<(), SinkFault>
     requires initial { mag counter.now.initial ≤ 1000000 }
-    requires short { length clicks.now ≤ 65536 }
-    ensures played { OnOk result (K.bytes out.new ≡ option_map (with_piece (played_text (counter_in counter.now) (map (λ id. id.now) clicks.now))) (K.bytes out.old)) }
-    ensures front { AppendsFront (played_text (counter_in counter.now) (map (λ id. id.now) clicks.now)) (K.bytes out.old) (K.bytes out.new) }
+    requires short { length events.now ≤ 65536 }
+    ensures played { OnOk result (K.bytes out.new ≡ option_map (with_piece (played_text (counter_in counter.now) (map (λ e. event_of e.now) events.now))) (K.bytes out.old)) }
+    ensures front { AppendsFront (played_text (counter_in counter.now) (map (λ e. event_of e.now) events.now)) (K.bytes out.old) (K.bytes out.new) }
     ensures cause { HasCause SinkFault.Failed SinkFault.Memory (K.faults out.old) (K.faults out.new) result }
 {
     let mut block = String::new(alloc);
     put_first(counter, &mut block, out)?;
     let mut number = counter.initial;
-    for (index, id) in clicks.iter().enumerate() {
-        number = put_click(counter, index as u64 + 1, id, number, &mut block, out)?;
+    for (index, event) in events.iter().enumerate() {
+        number = put_event(counter, index as u64 + 1, event, number, &mut block, out)?;
     }
     Ok(())
 }
@@ -43,23 +45,23 @@ fn put_first<K: Sink>(counter: &Counter, block: &mut String, out: &mut K) -> Res
     out.put(block.as_bytes())
 }
 
-/// Puts the block of a click at the id, where the number was this before it, and gives the number after it.
-fn put_click<K: Sink>(
+/// Puts the block of an event, which is this item, where the number was this before it, and gives the number after it.
+fn put_event<K: Sink>(
     counter: &Counter,
     item: u64,
-    id: &[u8],
+    event: &Event,
     number: i64,
     block: &mut String,
     out: &mut K,
 ) -> Result<i64, SinkFault>
     requires { mag number < 2 ^ 40 }
-    ensures number { IfOk result (λ after. after ≡ clicked (counter_in counter.now) number id.now) }
-    ensures played { OnOk result (K.bytes out.new ≡ option_map (with_piece (click_text (counter_in counter.now) item number id.now)) (K.bytes out.old)) }
-    ensures front { AppendsFront (click_text (counter_in counter.now) item number id.now) (K.bytes out.old) (K.bytes out.new) }
+    ensures number { IfOk result (λ after. after ≡ number_after (counter_in counter.now) number (event_of event.now)) }
+    ensures played { OnOk result (K.bytes out.new ≡ option_map (with_piece (event_text (counter_in counter.now) item number (event_of event.now))) (K.bytes out.old)) }
+    ensures front { AppendsFront (event_text (counter_in counter.now) item number (event_of event.now)) (K.bytes out.old) (K.bytes out.new) }
     ensures cause { HasCause SinkFault.Failed SinkFault.Memory (K.faults out.old) (K.faults out.new) result }
 {
     block.clear();
-    let after = push_click(counter, item, id, number, block)?;
+    let after = push_event(counter, item, event, number, block)?;
     out.put(block.as_bytes())?;
     Ok(after)
 }

@@ -1,15 +1,17 @@
 ghost use Rattle.std.specs.Prelude.{◌≡◌, ◌≤◌, Some, map, length, string_bytes, IsErrOf, ◌↔◌, Err};
+ghost use Rattle.qk_script.specs.Answer.{event_of};
 ghost use Rattle.qk_top.specs.Stops.{EndsForFaults};
 ghost use Rattle.qk_top.specs.Answers.{root_name, IsUsage};
 ghost use Rattle.qk_top.specs.Coming.{RootComes, CommandComes};
 ghost use Rattle.qk_top.specs.Reads.{MayRead, ReadsInOrder};
 
 use crate::play::play;
-use crate::script::clicked_ids;
+use crate::script::events;
 use crate::shape::read_counter;
 use crate::sources::{read_root, read_script};
 use crate::stop::{ApplicationRefusal, ScriptRefusal, Stop};
 use crate::words::script_word;
+use qk_script::Event;
 use qk_store::{Sink, SinkFault, Store};
 use std::alloc::Global;
 
@@ -31,23 +33,23 @@ pub(crate) fn replay<S: Store, K: Sink>(
     let Some(script) = script_word(words) else {
         return Err(Stop::Usage);
     };
-    let text = read_script(store, script)?;
-    match clicked_ids(alloc, text.as_slice()) {
-        Ok(Some(clicks)) => replay_clicks(alloc, store, clicks.as_slice(), out),
+    let items = read_script(alloc, store, script)?;
+    match events(alloc, items.as_slice()) {
+        Ok(Some(events)) => replay_events(alloc, store, events.as_slice(), out),
         Ok(None) => Err(Stop::Script(ScriptRefusal::NotBuilt)),
         Err(_) => Err(Stop::Memory),
     }
 }
 
-/// Plays clicks at these ids on the application of the store.
-fn replay_clicks<S: Store, K: Sink>(
+/// Plays these events on the application of the store.
+fn replay_events<S: Store, K: Sink>(
     alloc: Global,
     store: &mut S,
-    clicks: &[&[u8]],
+    events: &[&Event],
     out: &mut K,
 ) -> Result<(), Stop>
-    requires { length clicks.now ≤ 65536 }
-    ensures comes { (told : _) → S.files store.old ≡ Some told → RootComes told (map (λ id. id.now) clicks.now) (K.bytes out.old) (K.bytes out.new) result }
+    requires { length events.now ≤ 65536 }
+    ensures comes { (told : _) → S.files store.old ≡ Some told → RootComes told (map (λ e. event_of e.now) events.now) (K.bytes out.old) (K.bytes out.new) result }
     ensures command { ¬ IsErrOf result Stop.Usage }
     ensures files { S.files store.new ≡ S.files store.old }
     ensures reads { MayRead root_name (S.answers store.old) (S.answers store.new) }
@@ -58,7 +60,7 @@ fn replay_clicks<S: Store, K: Sink>(
     let Some(counter) = read_counter(&root) else {
         return Err(Stop::Application(ApplicationRefusal::NotBuilt));
     };
-    match play(alloc, &counter, clicks, out) {
+    match play(alloc, &counter, events, out) {
         Ok(()) => Ok(()),
         Err(SinkFault::Failed) => Err(Stop::SinkFailed),
         Err(SinkFault::Memory) => Err(Stop::Memory),

@@ -1,39 +1,58 @@
-ghost use Rattle.std.specs.Prelude.{◌≡◌, ◌<◌, Some, None, IfOk, OnErr, IfErr, IsErrOf, ◌⊎◌};
+ghost use Rattle.std.specs.Prelude.{◌≡◌, ◌≤◌, Some, None, IfOk, OnErr, IfErr, IsErrOf, ◌⊎◌, length, map};
 ghost use Rattle.std.specs.Option.{option_map};
 ghost use Rattle.qk_ast.specs.First.{HasFirstForm};
-ghost use Rattle.qk_store.specs.Answers.{content, reading, with_answer, bytes as content_bytes};
+ghost use Rattle.qk_store.specs.Answers.{content, reading, with_answer, IsWithin, bytes as content_bytes};
+ghost use Rattle.qk_script.specs.Answer.{item_of};
 ghost use Rattle.qk_top.specs.Stops.{EndsForFaults};
-ghost use Rattle.qk_top.specs.Sources.{IsScript, IsRoot};
+ghost use Rattle.qk_top.specs.Script.{SpellsItems};
+ghost use Rattle.qk_top.specs.Sources.{TextComes, ScriptComes, IsRoot};
 ghost use Rattle.qk_top.specs.Reads.{IsRead, MayRead};
 ghost use Rattle.qk_top.specs.Answers.{root_name};
 
 use crate::stop::{ApplicationRefusal, ScriptRefusal, Stop};
 use qk_ast::Module;
+use qk_base::limits;
 use qk_parse::parse_first;
+use qk_script::{ScriptFault, ScriptItem, parse_script};
 use qk_store::{Found, Store, StoreFault};
 use std::alloc::Global;
 use std::str::from_utf8;
 
-/// The greatest length in bytes of a script.
-const LONGEST_SCRIPT: usize = 1_048_576;
-
-/// The greatest length in bytes of a module's text.
-const LONGEST_MODULE: usize = 1_048_576;
-
-/// The bytes of the script of this name.
-pub(crate) fn read_script<S: Store>(store: &mut S, name: &str) -> Result<Vec<u8>, Stop>
-    ensures found { (told : _) → S.files store.old ≡ Some told → IsScript told name.now result }
-    ensures read { IfOk result (λ b. IsRead name.now (content_bytes b.items) (S.answers store.old) (S.answers store.new)) }
+/// The items of the script of this name.
+pub(crate) fn read_script<S: Store>(
+    alloc: Global,
+    store: &mut S,
+    name: &str,
+) -> Result<Vec<ScriptItem>, Stop>
+    ensures found { (told : _) → S.files store.old ≡ Some told → ScriptComes told name.now result }
+    // Whether or not the store tells its files.
+    ensures read { IfOk result (λ items. (text : _) × SpellsItems text (map item_of items.items) × IsRead name.now (content_bytes text) (S.answers store.old) (S.answers store.new)) }
     ensures reads { MayRead name.now (S.answers store.old) (S.answers store.new) }
     ensures files { S.files store.new ≡ S.files store.old }
     ensures cause { EndsForFaults Stop.StoreFailed (S.faults store.old) (S.faults store.new) result }
     ensures sink { ¬ IsErrOf result Stop.SinkFailed }
     ensures command { ¬ IsErrOf result Stop.Usage }
 {
-    match read_file(store, name, LONGEST_SCRIPT)? {
+    match read_file(store, name, limits::SCRIPT_BYTES)? {
         Found::Gone => Err(Stop::Script(ScriptRefusal::Missing)),
-        Found::TooLong => Err(Stop::Script(ScriptRefusal::NotBuilt)),
-        Found::Bytes(bytes) => Ok(bytes),
+        Found::TooLong => Err(Stop::Script(ScriptRefusal::TooLong)),
+        Found::Bytes(bytes) => script_items(alloc, bytes.as_slice()),
+    }
+}
+
+/// The items that a script's text spells.
+fn script_items(alloc: Global, text: &[u8]) -> Result<Vec<ScriptItem>, Stop>
+    requires { length text.now ≤ 1048576 }
+    ensures { TextComes text.now result }
+{
+    let Ok(text) = from_utf8(text) else {
+        return Err(Stop::Script(ScriptRefusal::NotUtf8));
+    };
+    match parse_script(alloc, text) {
+        Ok(items) => Ok(items),
+        Err(ScriptFault::Line(number)) => Err(Stop::Script(ScriptRefusal::Line(number))),
+        Err(ScriptFault::TooMany) => Err(Stop::Script(ScriptRefusal::TooMany)),
+        Err(ScriptFault::Memory) => Err(Stop::Memory),
     }
 }
 
@@ -48,7 +67,7 @@ pub(crate) fn read_root<S: Store>(alloc: Global, store: &mut S) -> Result<Module
     ensures sink { ¬ IsErrOf result Stop.SinkFailed }
     ensures command { ¬ IsErrOf result Stop.Usage }
 {
-    match read_file(store, "root.jsx", LONGEST_MODULE)? {
+    match read_file(store, "root.jsx", limits::MODULE_BYTES)? {
         Found::Gone => Err(Stop::Application(ApplicationRefusal::RootMissing)),
         Found::TooLong => Err(Stop::Application(ApplicationRefusal::NotBuilt)),
         Found::Bytes(bytes) => first_module(alloc, bytes.as_slice()),
@@ -74,6 +93,7 @@ fn first_module(alloc: Global, source: &[u8]) -> Result<Module, Stop>
 /// What the store finds under the name.
 fn read_file<S: Store>(store: &mut S, name: &str, most: usize) -> Result<Found, Stop>
     ensures found { IfOk result (λ found. (told : _) → S.files store.old ≡ Some told → content found ≡ reading (told name.now) most) }
+    ensures within { IfOk result (λ found. IsWithin most (content found)) }
     ensures answered { IfOk result (λ found. S.answers store.new ≡ option_map (with_answer name.now most (content found)) (S.answers store.old)) }
     ensures refused { OnErr result (S.answers store.new ≡ S.answers store.old) }
     ensures files { S.files store.new ≡ S.files store.old }

@@ -1,7 +1,21 @@
+ghost use Rattle.std.specs.Prelude.{◌≡◌, IfOk};
+ghost use Rattle.std.specs.Cow.{cow_str_bytes};
+ghost use Rattle.qk_top.specs.Stops.{last_line_of};
+
+use crate::digits::push_count;
+use std::alloc::{AllocError, Global};
+use std::borrow::CowStr;
+
 /// Why a script is refused.
 #[derive(Clone, Copy, Debug, PartialEq, Eq)]
 pub(crate) enum ScriptRefusal {
     Missing,
+    TooLong,
+    NotUtf8,
+    /// The line of this number, counted from 1, is the first that is no line of a script.
+    Line(u64),
+    TooMany,
+    /// It has a pause, and there are no pauses yet.
     NotBuilt,
 }
 
@@ -28,8 +42,7 @@ pub(crate) enum Stop {
 }
 
 impl Stop {
-    ghost use Rattle.std.specs.Prelude.{◌≡◌};
-    ghost use Rattle.qk_top.specs.Stops.{status_of, last_line_of};
+    ghost use Rattle.qk_top.specs.Stops.{status_of};
 
     /// The status with which the program ends.
     pub(crate) fn status(self) -> u8
@@ -46,18 +59,33 @@ impl Stop {
     }
 
     /// The last line that is printed, with its line feed; empty where none is.
-    pub(crate) fn last_line(self) -> &'static str
-        ensures { result.now ≡ last_line_of self }
+    pub(crate) fn last_line(self, alloc: Global) -> Result<CowStr<'static>, AllocError>
+        ensures { IfOk result (λ line. cow_str_bytes line ≡ last_line_of self) }
     {
-        match self {
+        let line = match self {
             Stop::Usage => "usage\n",
             Stop::Application(ApplicationRefusal::RootMissing) => "refused RootMissing root -\n",
             Stop::Application(ApplicationRefusal::NotBuilt) => "refused NotBuilt root -\n",
             Stop::Script(ScriptRefusal::Missing) => "refused ScriptMissing\n",
+            Stop::Script(ScriptRefusal::TooLong) => "refused ScriptTooLong\n",
+            Stop::Script(ScriptRefusal::NotUtf8) => "refused ScriptNotUtf8\n",
+            Stop::Script(ScriptRefusal::Line(number)) => return wrong_line(alloc, number),
+            Stop::Script(ScriptRefusal::TooMany) => "refused ScriptTooMany\n",
             Stop::Script(ScriptRefusal::NotBuilt) => "refused NotBuilt\n",
             Stop::StoreFailed => "store failed\n",
             Stop::SinkFailed => "",
             Stop::Memory => "memory\n",
-        }
+        };
+        Ok(CowStr::Borrowed(line))
     }
+}
+
+/// The last line for a script whose first wrong line has this number.
+fn wrong_line(alloc: Global, number: u64) -> Result<CowStr<'static>, AllocError>
+    ensures { IfOk result (λ line. cow_str_bytes line ≡ last_line_of (Stop.Script (ScriptRefusal.Line number))) }
+{
+    let mut line = String::from_str(alloc, "refused ScriptLine ")?;
+    push_count(number, &mut line)?;
+    line.push_str("\n")?;
+    Ok(CowStr::Owned(line))
 }

@@ -1,6 +1,6 @@
 use Rattle.std.proofs.Common.{rules, arith}
 use Rattle.qk_top.proofs.Numbers.{number_written}
-use Rattle.qk_top.proofs.blocks.push_number.Goals as goal
+use Rattle.qk_top.proofs.digits.push_number.Goals as goal
 
 pub returns : goal.returns
 returns c = rw (← number_written c.args.number (search (rules, c.ranges.number))) (search rules)
