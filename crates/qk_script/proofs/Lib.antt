@@ -3,3 +3,4 @@ pub mod LineTexts
 pub mod Events
 pub mod Items
 pub mod OneItems
+pub mod Apart

@@ -8,20 +8,21 @@ use Rattle.qk_store.specs.Files.{Files}
 use Rattle.qk_store.specs.Causes.{Rose}
 use Rattle.qk_store.specs.Pieces.{with_piece, AppendsFront}
 use Rattle.qk_meaning.specs.Value.{Text}
+use Rattle.qk_meaning.specs.Item.{Event}
 use Rattle.qk_meaning.specs.Output.{line}
 use Rattle.qk_top.specs.declared.stop.ScriptRefusal.TheVariants as scripts
 use Rattle.qk_top.specs.declared.stop.ApplicationRefusal.TheVariants as application
 use Rattle.qk_top.specs.declared.stop.Stop.{Stop}
 use Rattle.qk_top.specs.declared.stop.Stop.TheVariants.{Usage, Script, Application, StoreFailed, SinkFailed, Memory}
 use Rattle.qk_top.specs.Words.{IsReplay}
-use Rattle.qk_top.specs.Script.{IsFirstScript}
+use Rattle.qk_top.specs.Script.{SpellsEvents}
 use Rattle.qk_top.specs.Answers.{root_name, IsUsage, Plays, RefusedScript, gone_script, refused_script, RefusedApplication, gone_root, refused_root, IsAccepted, IsOutput, Answers, played, usage, application as refused_application, script, store_failed, IsFront, nothing, begun, memory, memory_alone}
 use Rattle.qk_top.specs.Stops.{status_of, last_line_of, EndsForFaults, IsPut, PutsLastLine, whole, in_part, in_want, Finishes}
 use Rattle.qk_top.specs.Coming.{CommandPlays, CommandComes}
 use Rattle.qk_top.specs.Run.{IsOneOf, Comes}
 use Rattle.qk_top.proofs.Plays.{front_behind, pieces_join}
 use Rattle.qk_parse.proofs.One.{one_first}
-use Rattle.qk_top.proofs.Scripts.{one_clicks}
+use Rattle.qk_top.proofs.Scripts.{one_script, not_refused}
 
 put_nothing : (o : Option (List ℕ)) → o ≡ option_map (with_piece []) o
 put_nothing None = refl
@@ -60,16 +61,12 @@ from_memory status (inr (inr (inl e))) = inr (inr (inl e))
 from_memory status (inr (inr (inr e))) = absurd e
 
 outside_comes : {words : List Text} {told : Files} (status : ℕ) → IsOneOf status (6 ∷ 7 ∷ 8 ∷ []) → Comes words told status
-outside_comes status h = record { accepted = λ m ids a. inr h; application = λ kind r. inr h; script = λ kind r. inr h }
+outside_comes status h = record { accepted = λ m events a. inr h; application = λ kind r. inr h; script = λ kind r. inr h }
 
 memory_complete : (between after : Option Text) (f g h status : ℕ) → PutsLastLine Memory between after g h status → g ≡ f → ¬ Rose f h → (status ≡ 0) ⊎ (status ≡ 8)
 memory_complete between after f g h status (whole e put kept) same none = inr e
 memory_complete between after f g h status (in_part e front rose later) same none = absurd (none (subst (λ x. Rose x h) same rose))
 memory_complete between after f g h status (in_want e kept faults) same none = inr e
-
--- a script clicks at one list of ids
-one_script : (text : Text) (ids others : List Text) → IsFirstScript text ids → IsFirstScript text others → ids ≡ others
-one_script text ids others a b = one_clicks text ids others a.words b.words a.spelled b.spelled
 
 -- an answer that stops a command before anything is put
 module _ (words : List Text) (told : Files) where
@@ -144,49 +141,49 @@ module _ (words : List Text) (told : Files) where
 
   -- ---- one cause excludes the others
 
-  plays_not_usage : (ids : List Text) → Plays words told ids → IsUsage words → ⊥
-  plays_not_usage ids plays none = none plays.script plays.command
+  plays_not_usage : (events : List Event) → Plays words told events → IsUsage words → ⊥
+  plays_not_usage events plays none = none plays.script plays.command
 
-  plays_not_refused : (ids : List Text) (kind : Text) → Plays words told ids → RefusedScript words told kind → ⊥
-  plays_not_refused ids kind plays (gone_script command gone) = not_both (told plays.script) plays.text plays.stands (ap told (same_script words _ _ plays.command command) ∙ gone)
-  plays_not_refused ids kind plays (refused_script {text = text} command stands none) =
-      none ids (subst (λ t. IsFirstScript t ids) (same_some plays.text text (sym plays.stands ∙ ap told (same_script words _ _ plays.command command) ∙ stands)) plays.clicks)
+  plays_not_refused : (events : List Event) (kind : Text) → Plays words told events → RefusedScript words told kind → ⊥
+  plays_not_refused events kind plays (gone_script command gone) = not_both (told plays.script) plays.text plays.stands (ap told (same_script words _ _ plays.command command) ∙ gone)
+  plays_not_refused events kind plays (refused_script {text = text} command stands refused) =
+      not_refused text events kind (subst (λ t. SpellsEvents t events) (same_some plays.text text (sym plays.stands ∙ ap told (same_script words _ _ plays.command command) ∙ stands)) plays.spells) refused
 
-  refused_plays : (kind : Text) → RefusedApplication words told kind → (ids : List Text) × Plays words told ids
+  refused_plays : (kind : Text) → RefusedApplication words told kind → (events : List Event) × Plays words told events
   refused_plays kind (gone_root plays gone) = (_, plays)
   refused_plays kind (refused_root plays stands none) = (_, plays)
 
-  accepted_not_refused : (m : Module) (ids : List Text) (kind : Text) → IsAccepted words told m ids → RefusedApplication words told kind → ⊥
-  accepted_not_refused m ids kind accepted (gone_root plays gone) = not_both (told root_name) accepted.source accepted.stands gone
-  accepted_not_refused m ids kind accepted (refused_root {source = source} plays stands none) =
+  accepted_not_refused : (m : Module) (events : List Event) (kind : Text) → IsAccepted words told m events → RefusedApplication words told kind → ⊥
+  accepted_not_refused m events kind accepted (gone_root plays gone) = not_both (told root_name) accepted.source accepted.stands gone
+  accepted_not_refused m events kind accepted (refused_root {source = source} plays stands none) =
       none m (subst (λ t. HasFirstForm t m) (same_some accepted.source source (sym accepted.stands ∙ stands)) accepted.derives)
 
   refused_not_usage : (kind : Text) → RefusedScript words told kind → IsUsage words → ⊥
   refused_not_usage kind (gone_script command gone) none = none _ command
-  refused_not_usage kind (refused_script command stands no_ids) none = none _ command
+  refused_not_usage kind (refused_script command stands refused) none = none _ command
 
   -- ---- which answer comes
 
   pub comes_played : (text : Text) → CommandPlays words told text → Comes words told 0
   comes_played text plays = record {
-    accepted = λ m ids accepted. inl refl;
-    application = λ kind refused. absurd (accepted_not_refused plays.m plays.ids kind plays.accepted refused);
-    script = λ kind refused. absurd (plays_not_refused plays.ids kind plays.accepted.plays refused);
+    accepted = λ m events accepted. inl refl;
+    application = λ kind refused. absurd (accepted_not_refused plays.m plays.events kind plays.accepted refused);
+    script = λ kind refused. absurd (plays_not_refused plays.events kind plays.accepted.plays refused);
   }
 
   pub comes_ended : (stop : Stop) (before between after : Option Text) (f g status : ℕ) → CommandComes words told before between (Err stop) → Finishes stop between after f g status → Comes words told status
   comes_ended Usage before between after f g status comes ends = record {
-    accepted = λ m ids accepted. absurd (plays_not_usage ids accepted.plays comes.0);
+    accepted = λ m events accepted. absurd (plays_not_usage events accepted.plays comes.0);
     application = λ kind refused. absurd (plays_not_usage _ (refused_plays kind refused).1 comes.0);
     script = λ kind refused. absurd (refused_not_usage kind refused comes.0);
   }
   comes_ended (Script own) before between after f g status comes ends = record {
-    accepted = λ m ids accepted. absurd (plays_not_refused ids _ accepted.plays comes.0);
+    accepted = λ m events accepted. absurd (plays_not_refused events _ accepted.plays comes.0);
     application = λ kind refused. absurd (plays_not_refused _ _ (refused_plays kind refused).1 comes.0);
     script = λ kind refused. with_outside 5 status (last_line_status (Script own) between after f g status ends);
   }
   comes_ended (Application own) before between after f g status comes ends = record {
-    accepted = λ m ids accepted. absurd (accepted_not_refused m ids _ accepted comes.0);
+    accepted = λ m events accepted. absurd (accepted_not_refused m events _ accepted comes.0);
     application = λ kind refused. with_outside 2 status (last_line_status (Application own) between after f g status ends);
     script = λ kind refused. absurd (plays_not_refused _ kind (refused_plays _ comes.0).1 refused);
   }
@@ -196,22 +193,22 @@ module _ (words : List Text) (told : Files) where
 
   -- ---- completeness
 
-  pub complete_ended : (stop : Stop) (before between after : Option Text) (store_before store_now before_faults between_faults now_faults status : ℕ) (m : Module) (ids : List Text) → IsAccepted words told m ids → CommandComes words told before between (Err stop)
+  pub complete_ended : (stop : Stop) (before between after : Option Text) (store_before store_now before_faults between_faults now_faults status : ℕ) (m : Module) (events : List Event) → IsAccepted words told m events → CommandComes words told before between (Err stop)
       → Finishes stop between after between_faults now_faults status → EndsForFaults {T = Unit {0}} StoreFailed store_before store_now (Err stop) → EndsForFaults {T = Unit {0}} SinkFailed before_faults between_faults (Err stop)
       → ¬ Rose store_before store_now → ¬ Rose before_faults now_faults → (status ≡ 0) ⊎ (status ≡ 8)
-  complete_ended Usage before between after sb sn f g h status m ids accepted comes ends store sink no_store no_sink = absurd (plays_not_usage ids accepted.plays comes.0)
-  complete_ended (Script own) before between after sb sn f g h status m ids accepted comes ends store sink no_store no_sink = absurd (plays_not_refused ids _ accepted.plays comes.0)
-  complete_ended (Application own) before between after sb sn f g h status m ids accepted comes ends store sink no_store no_sink = absurd (accepted_not_refused m ids _ accepted comes.0)
-  complete_ended StoreFailed before between after sb sn f g h status m ids accepted comes ends store sink no_store no_sink = absurd (no_store (store.failed refl))
-  complete_ended SinkFailed before between after sb sn f g h status m ids accepted comes ends store sink no_store no_sink = absurd (no_sink (subst (Rose f) (sym ends.2) (sink.failed refl)))
-  complete_ended Memory before between after sb sn f g h status m ids accepted comes ends store sink no_store no_sink =
+  complete_ended Usage before between after sb sn f g h status m events accepted comes ends store sink no_store no_sink = absurd (plays_not_usage events accepted.plays comes.0)
+  complete_ended (Script own) before between after sb sn f g h status m events accepted comes ends store sink no_store no_sink = absurd (plays_not_refused events _ accepted.plays comes.0)
+  complete_ended (Application own) before between after sb sn f g h status m events accepted comes ends store sink no_store no_sink = absurd (accepted_not_refused m events _ accepted comes.0)
+  complete_ended StoreFailed before between after sb sn f g h status m events accepted comes ends store sink no_store no_sink = absurd (no_store (store.failed refl))
+  complete_ended SinkFailed before between after sb sn f g h status m events accepted comes ends store sink no_store no_sink = absurd (no_sink (subst (Rose f) (sym ends.2) (sink.failed refl)))
+  complete_ended Memory before between after sb sn f g h status m events accepted comes ends store sink no_store no_sink =
       memory_complete between after f g h status ends (sink.kept (λ e. apart e)) no_sink
 
   -- ---- the headline
 
-  pub headline_played : (before after : Option Text) (m : Module) (ids : List Text) (text : Text) → IsAccepted words told m ids → CommandPlays words told text → IsPut text before after → (text : Text) × IsOutput m ids text × IsPut text before after
-  headline_played before after m ids text accepted plays put =
+  pub headline_played : (before after : Option Text) (m : Module) (events : List Event) (text : Text) → IsAccepted words told m events → CommandPlays words told text → IsPut text before after → (text : Text) × IsOutput m events text × IsPut text before after
+  headline_played before after m events text accepted plays put =
       let same_module = one_first accepted.source plays.m m (subst (λ t. HasFirstForm t plays.m) (same_some plays.accepted.source accepted.source (sym plays.accepted.stands ∙ accepted.stands)) plays.accepted.derives) accepted.derives in
       let same_text = same_some plays.accepted.plays.text accepted.plays.text (sym plays.accepted.plays.stands ∙ ap told (same_script words _ _ plays.accepted.plays.command accepted.plays.command) ∙ accepted.plays.stands) in
-      let same_ids = one_script accepted.plays.text plays.ids ids (subst (λ t. IsFirstScript t plays.ids) same_text plays.accepted.plays.clicks) accepted.plays.clicks in
-      (text, subst (λ i. IsOutput m i text) same_ids (subst (λ n. IsOutput n plays.ids text) same_module plays.printed), put)
+      let same_events = one_script accepted.plays.text plays.events events (subst (λ t. SpellsEvents t plays.events) same_text plays.accepted.plays.spells) accepted.plays.spells in
+      (text, subst (λ es. IsOutput m es text) same_events (subst (λ n. IsOutput n plays.events text) same_module plays.printed), put)

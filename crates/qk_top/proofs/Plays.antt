@@ -122,8 +122,8 @@ pub played_in_bits : (c : Counter) (events : List Event) (index : ℕ) (n m : �
 played_in_bits c events index n m before now low e played =
     subst (λ k. IsPlayed c events index k before now) (sym (to_z-of_z w64 m (small_fits m (subst (λ k. mag k ≤ 2000000) (sym e) (omega (arith, played.small)))) ∙ e)) played
 
-pub event_there : {A : Type 0} (f : A → Event) (xs : List A) (i : ℕ) (d : A) → i < length xs → f (get_or xs i d) ≡ get_or (map f xs) i (f (get_or xs i d))
-event_there f xs i d below = sym (get_or-map f xs i d (f (get_or xs i d)) below)
+pub event_there : {A : Type 0} (f : A → Event) (xs : List A) (i : ℕ) (x : A) → i < length xs → x ≡ get_or xs i x → f x ≡ get_or (map f xs) i (f x)
+event_there f xs i x below e = ap f e ∙ sym (get_or-map f xs i x (f x) below)
 
 err_same : {U : Type 0} (r : Result U SinkFault) (e f : SinkFault) → r ≡ Err e → r ≡ Err f → e ≡ f
 err_same r e f h k = cc

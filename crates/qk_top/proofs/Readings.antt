@@ -5,11 +5,18 @@ use Rattle.std.proofs.Common.{◌⊎◌, inl, inr}
 use Rattle.std.specs.Prelude.{Result, Ok, Err, IfOk, IfErr, IsErrOf}
 use Rattle.qk_ast.specs.declared.Module.{Module}
 use Rattle.qk_store.specs.Files.{Files}
+use Rattle.qk_top.specs.declared.stop.ScriptRefusal.TheVariants as scripts
 use Rattle.qk_top.specs.declared.stop.ApplicationRefusal.TheVariants.{NotBuilt}
 use Rattle.qk_top.specs.declared.stop.Stop.{Stop}
-use Rattle.qk_top.specs.declared.stop.Stop.TheVariants.{Application, Memory}
+use Rattle.qk_top.specs.declared.stop.Stop.TheVariants.{Usage, Script, Application, StoreFailed, SinkFailed, Memory}
 use Rattle.qk_top.specs.Answers.{root_name}
-use Rattle.qk_top.specs.Sources.{IsRoot}
+use Rattle.std.specs.Prelude.{map}
+use Rattle.std.specs.declared.vec.Vec.{Vec}
+use Rattle.std.specs.declared.alloc.Global.{Global}
+use Rattle.qk_script.specs.declared.item.ScriptItem.{ScriptItem}
+use Rattle.qk_script.specs.Answer.{item_of}
+use Rattle.qk_top.specs.Script.{SpellsItems}
+use Rattle.qk_top.specs.Sources.{TextComes, ScriptComes, IsRoot}
 use Rattle.qk_ast.specs.First.{HasFirstForm}
 use Rattle.qk_meaning.specs.Value.{Text}
 use Rattle.qk_store.specs.Answers.{Content, gone, too_long, bytes, reading}
@@ -60,3 +67,26 @@ pub root_came : (told : Files) (source : Text) (r : Result Module Stop) → told
 root_came told source (Ok m) stands ok refused stops = (source, stands, ok)
 root_came told source (Err stop) stands ok refused (inl e) = subst (λ s. IsRoot told (Err s)) (sym e) tt
 root_came told source (Err stop) stands ok refused (inr e) = subst (λ s. IsRoot told (Err s)) (sym e) (source, stands, refused (ap Err e))
+
+-- what came of a script that stands
+pub script_came : (told : Files) (name text : Text) (r : Result (Vec ScriptItem Global) Stop) → told name ≡ Some text → TextComes text r → ScriptComes told name r
+script_came told name text (Ok items) stands h = (text, stands, h)
+script_came told name text (Err Usage) stands h = absurd h
+script_came told name text (Err (Script scripts.Missing)) stands h = absurd h
+script_came told name text (Err (Script scripts.TooLong)) stands h = (text, stands, h)
+script_came told name text (Err (Script scripts.NotUtf8)) stands h = (text, stands, h)
+script_came told name text (Err (Script (scripts.Line number))) stands h = (text, stands, h)
+script_came told name text (Err (Script scripts.TooMany)) stands h = (text, stands, h)
+script_came told name text (Err (Script scripts.NotBuilt)) stands h = (text, stands, h)
+script_came told name text (Err (Application kind)) stands h = absurd h
+script_came told name text (Err StoreFailed) stands h = absurd h
+script_came told name text (Err SinkFailed) stands h = absurd h
+script_came told name text (Err Memory) stands h = tt
+
+pub text_read : (text : Text) (r : Result (Vec ScriptItem Global) Stop) → TextComes text r → IfOk r (λ items. SpellsItems text (map item_of items.items))
+text_read text (Ok items) h = h
+text_read text (Err stop) h = tt
+
+-- a text's own answer is neither a failure of the outside nor of the words
+pub text_stops : (text : Text) (stop : Stop) (r : Result (Vec ScriptItem Global) Stop) → TextComes text r → (TextComes text (Err stop) → ⊥) → ¬ IsErrOf r stop
+text_stops text stop r h none e = none (subst (TextComes text) e h)

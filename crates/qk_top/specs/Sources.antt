@@ -19,6 +19,7 @@ use Rattle.qk_top.specs.Answers.{root_name}
 -- the items are those of the script's text, or that is refused
 abbrev pub TextComes : Text → Result (Vec ScriptItem Global) Stop → Type 0
 TextComes text (Ok items) = SpellsItems text (map item_of items.items)
+TextComes text (Err (Script script.Missing)) = ⊥
 TextComes text (Err (Script kind)) = RefusedText text (script_kind kind)
 TextComes text (Err Memory) = Unit {0}
 TextComes text (Err _) = ⊥

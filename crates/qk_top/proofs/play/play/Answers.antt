@@ -1,6 +1,7 @@
 use Rattle.std.proofs.Common.{rules, arith, refl, sym, ◌∙◌, length}
 use Rattle.std.proofs.lemmas.List.{length-map}
-use Rattle.qk_top.proofs.Plays.{first_front, played_none, played_more, played_all, played_front, played_in_bits, id_there, handed_on, whole_front}
+use Rattle.qk_script.specs.Answer.{event_of}
+use Rattle.qk_top.proofs.Plays.{first_front, played_none, played_more, played_all, played_front, played_in_bits, event_there, handed_on, whole_front}
 use Rattle.qk_top.proofs.play.play.Goals as goal
 
 pub returns-in_err-put_first-clause-front : goal.returns-in_err-put_first-clause-front
@@ -12,13 +13,13 @@ loop-index-init g c = record {
   faults = c.in_ok-put_first.ensures.cause.ok;
 }
 
-pub put_click-requires : goal.put_click-requires
-put_click-requires g c = omega (arith, c.loop-index.invariant.played.small, c.requires.short, c.loop-index-test.true)
+pub put_event-requires : goal.put_event-requires
+put_event-requires g c = omega (arith, c.loop-index.invariant.played.small, c.requires.short, c.loop-index-test.true)
 
 pub loop-index-preserved : goal.loop-index-preserved
 loop-index-preserved g c = record {
   played = played_in_bits _ _ _ _ _ _ _ (omega arith) c.in_ok-number.ensures.number
-      (played_more _ _ _ _ _ _ _ _ c.loop-index.invariant.played (rw length-map c.loop-index-test.true) (id_there (λ id. id.now) _ _ _ c.loop-index-test.true) c.in_ok-number.ensures.played);
+      (played_more _ _ _ _ _ _ _ _ c.loop-index.invariant.played (rw length-map c.loop-index-test.true) (event_there (λ e. event_of e.now) _ _ c.index-events-index.result c.loop-index-test.true c.index-events-index.is) c.in_ok-number.ensures.played);
   faults = c.in_ok-number.ensures.cause.ok ∙ c.loop-index.invariant.faults;
 }
 
@@ -27,7 +28,7 @@ returns-clause-played g c = played_all _ _ _ _ _ _ c.loop-index.invariant.played
 
 pub returns-in_err-number-clause-front : goal.returns-in_err-number-clause-front
 returns-in_err-number-clause-front g c =
-    played_front _ _ _ _ _ _ _ _ c.loop-index.invariant.played (rw length-map c.loop-index-test.true) (id_there (λ id. id.now) _ _ _ c.loop-index-test.true) c.in_err-number.ensures.front
+    played_front _ _ _ _ _ _ _ _ c.loop-index.invariant.played (rw length-map c.loop-index-test.true) (event_there (λ e. event_of e.now) _ _ c.index-events-index.result c.loop-index-test.true c.index-events-index.is) c.in_err-number.ensures.front
 
 pub returns-in_err-number-clause-cause : goal.returns-in_err-number-clause-cause
 returns-in_err-number-clause-cause g c = handed_on _ _ _ _ _ c.loop-index.invariant.faults c.in_err-number.ensures.cause (search rules)

@@ -1,7 +1,7 @@
 use Rattle.std.proofs.Common.{inr}
 use Rattle.std.proofs.lemmas.List.{length-map}
 use Rattle.qk_top.proofs.Comings.{root_plays}
-use Rattle.qk_top.proofs.replay.replay_clicks.Goals as goal
+use Rattle.qk_top.proofs.replay.replay_events.Goals as goal
 
 pub returns-in-Ok-clause-comes : goal.returns-in-Ok-clause-comes
 returns-in-Ok-clause-comes g c told e = (_, root_plays told _ _ _ (c.in_ok-root.ensures.found told e) c.in-Some.ensures (rw length-map c.requires), c.in-Ok.ensures.played)
