@@ -17,4 +17,4 @@ script_alone words name before after command (inr read) = script read.0 command 
 pub script_and_root : (words : List Text) (name text : Text) (events : List Event) (before between after : Option (List Answer)) → IsReplay words name → SpellsEvents text events → IsRead name (bytes text) before between → MayRead root_name between after
     → ReadsInOrder words before after
 script_and_root words name text events before between after command spells read (inl same) = script (bytes text) command (same ∙ read)
-script_and_root words name text events before between after command spells read (inr root) = root_behind root.0 between command spells read root.1
+script_and_root words name text events before between after command spells read (inr root) = root_behind events root.0 between command spells read root.1

@@ -1,10 +1,15 @@
 -- Scripts that are played, and those that are refused.
-use Rattle.std.proofs.Common.{◌≡◌, ◌≤◌, ◌<◌, ◌+◌, ℕ, zero, suc, List, [], ◌∷◌, ◌++◌, refl, sym, ap, ◌∙◌, subst, map, length, get_or, take, drop, arith, Option, Some, None}
+use Rattle.std.proofs.Common.{◌≡◌, ◌≤◌, ◌<◌, ◌+◌, ℕ, zero, suc, List, [], ◌∷◌, ◌++◌, refl, sym, ap, ◌∙◌, subst, map, length, get_or, take, drop, take_all, arith}
 use Rattle.std.specs.Prelude.{Contains}
-use Rattle.std.proofs.lemmas.List.{length-map}
+use Rattle.std.proofs.lemmas.List.{length-map, get_or-map, map-append}
+use Rattle.std.proofs.Math.Seq.{take-suc}
 use Rattle.qk_meaning.specs.Value.{Text}
 use Rattle.qk_meaning.specs.Item.{Event}
 use Rattle.qk_meaning.specs.Run.{Line, Happens, Pauses}
+use Rattle.qk_script.specs.declared.item.Event.{Event as Kept}
+use Rattle.qk_script.specs.declared.item.ScriptItem.{ScriptItem}
+use Rattle.qk_script.specs.declared.item.ScriptItem.TheVariants as item
+use Rattle.qk_script.specs.Answer.{event_of, item_of}
 use Rattle.qk_script.proofs.OneItems.{one_text}
 use Rattle.qk_script.proofs.Apart.{not_wrong, not_many}
 use Rattle.qk_top.specs.Script.{SpellsItems, SpellsEvents, RefusedText, too_long, not_utf8, wrong_line, too_many, with_pause}
@@ -53,3 +58,28 @@ not_refused text events kind spells (wrong_line {number = number} readable wrong
 not_refused text events kind spells (too_many readable many) = not_many text (map Happens events) spells.spelled many
 not_refused text events kind spells (with_pause {items = items} other pause) =
     no_pause events (subst (λ l. Contains l Pauses) (one_text text items (map Happens events) other.spelled.0 spells.spelled.0) pause)
+
+-- ---- the items so far are these events
+
+next_number : (n : ℕ) → n + 1 ≡ suc n
+next_number n = omega arith
+
+event_behind : {A : Type 0} (f : A → Event) (done more : List A) (a : A) → more ≡ done ++ (a ∷ []) → map Happens (map f more) ≡ map Happens (map f done) ++ (Happens (f a) ∷ [])
+event_behind f done more a e = ap (λ l. map Happens (map f l)) e ∙ ap (map Happens) (map-append f done (a ∷ [])) ∙ map-append Happens (map f done) (f a ∷ [])
+
+item_behind : (items : List ScriptItem) (index : ℕ) (it : ScriptItem) → index < length items → it ≡ get_or items index it → take (index + 1) (map item_of items) ≡ take index (map item_of items) ++ (item_of it ∷ [])
+item_behind items index it below e =
+    ap (λ n. take n (map item_of items)) (next_number index)
+    ∙ take-suc (map item_of items) index (item_of it) (subst (λ n. index < n) (sym (length-map items item_of)) below)
+    ∙ ap (λ i. take index (map item_of items) ++ (i ∷ [])) (get_or-map item_of items index it (item_of it) below ∙ ap item_of (sym e))
+
+pub one_more_event : {A : Type 0} (f : A → Event) (items : List ScriptItem) (index : ℕ) (it : ScriptItem) (event : Kept) (done more : List A) (a : A) → take index (map item_of items) ≡ map Happens (map f done)
+    → index < length items → it ≡ get_or items index it → it ≡ item.Event event → f a ≡ event_of event → more ≡ done ++ (a ∷ []) → take (index + 1) (map item_of items) ≡ map Happens (map f more)
+one_more_event f items index it event done more a before below there is same pushed =
+    item_behind items index it below there
+    ∙ ap (λ l. l ++ (item_of it ∷ [])) before
+    ∙ ap (λ i. map Happens (map f done) ++ (i ∷ [])) (ap item_of is ∙ ap Happens (sym same))
+    ∙ sym (event_behind f done more a pushed)
+
+pub all_events : (items : List ScriptItem) (index : ℕ) (events : List Event) → take index (map item_of items) ≡ map Happens events → length items ≤ index → map item_of items ≡ map Happens events
+all_events items index events before past = sym (take_all index (map item_of items) (subst (λ n. n ≤ index) (sym (length-map items item_of)) past)) ∙ before

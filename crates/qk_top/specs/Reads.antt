@@ -20,5 +20,5 @@ MayRead name before after = (after ≡ before) ⊎ ((found : Content) × IsRead 
 pub data ReadsInOrder (words : List Text) (before after : Option (List Answer)) : Type 0 where
   nothing : after ≡ before → ReadsInOrder words before after
   script : {name : Text} (found : Content) → IsReplay words name → IsRead name found before after → ReadsInOrder words before after
-  root_behind : {name text : Text} {events : List Event} (found : Content) (between : Option (List Answer)) → IsReplay words name → SpellsEvents text events → IsRead name (bytes text) before between → IsRead root_name found between after
+  root_behind : {name text : Text} (events : List Event) (found : Content) (between : Option (List Answer)) → IsReplay words name → SpellsEvents text events → IsRead name (bytes text) before between → IsRead root_name found between after
       → ReadsInOrder words before after

@@ -1,13 +1,17 @@
-use Rattle.std.proofs.Common.{sym, ap, ◌∙◌}
-use Rattle.qk_store.specs.Answers.{content}
-use Rattle.qk_top.proofs.Readings.{gone_is, long_is, bytes_is}
+use Rattle.std.proofs.Common.{rules, sym, ap, ◌∙◌, Some, inr}
+use Rattle.qk_store.specs.Answers.{content, bytes}
+use Rattle.qk_top.specs.Script.{too_long}
+use Rattle.qk_top.proofs.Readings.{gone_is, long_is, bytes_is, script_came, script_items_read, text_stops}
 use Rattle.qk_top.proofs.sources.read_script.Goals as goal
 
 pub returns-in-Gone-clause-found : goal.returns-in-Gone-clause-found
 returns-in-Gone-clause-found g c told e = gone_is (told c.args.name.now) 1048576 (sym (ap content c.in-Gone.is) ∙ c.in_ok-read_file.ensures.found told e)
 
 pub returns-in-TooLong-clause-found : goal.returns-in-TooLong-clause-found
-returns-in-TooLong-clause-found g c told e = long_is (told c.args.name.now) 1048576 (sym (ap content c.in-TooLong.is) ∙ c.in_ok-read_file.ensures.found told e)
+returns-in-TooLong-clause-found g c told e =
+    let long = long_is (told c.args.name.now) 1048576 (sym (ap content c.in-TooLong.is) ∙ c.in_ok-read_file.ensures.found told e) in
+    (long.0, long.1, too_long long.2)
 
 pub returns-in-Bytes-clause-found : goal.returns-in-Bytes-clause-found
-returns-in-Bytes-clause-found g c told e = bytes_is (told c.args.name.now) 1048576 _ (sym (ap content c.in-Bytes.is) ∙ c.in_ok-read_file.ensures.found told e)
+returns-in-Bytes-clause-found g c told e =
+    script_came told _ _ _ (bytes_is (told c.args.name.now) 1048576 _ (sym (ap content c.in-Bytes.is) ∙ c.in_ok-read_file.ensures.found told e) ∙ ap Some (sym c.as_slice.ensures.value)) c.script_items.ensures
