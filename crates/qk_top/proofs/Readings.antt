@@ -88,22 +88,11 @@ script_came told name text (Err StoreFailed) stands h = absurd h
 script_came told name text (Err SinkFailed) stands h = absurd h
 script_came told name text (Err Memory) stands h = tt
 
-pub script_items_read : (text file : Text) (Reads : Text → Type 0) (r : Result (Vec ScriptItem Global) Stop) → TextComes text r → text ≡ file → Reads file → IfOk r (λ items. (source : Text) × SpellsItems source (map item_of items.items) × Reads source)
-script_items_read text file Reads (Ok items) h same read = (text, h, subst Reads (sym same) read)
-script_items_read text file Reads (Err stop) h same read = tt
-
--- a text's own answer is neither a failure of the outside nor of the words
-pub text_stops : (text : Text) (stop : Stop) (r : Result (Vec ScriptItem Global) Stop) → TextComes text r → (TextComes text (Err stop) → ⊥) → ¬ IsErrOf r stop
-text_stops text stop r h none e = none (subst (TextComes text) e h)
-
 -- ---- a text that was read as UTF-8
 
 module _ (text seen : Text) (short : length text ≤ 1048576) (utf8 : (seen ≡ text) × IsUtf8 text) where
   readable : IsReadable text
   readable = record { short = short; utf8 = utf8.1 }
-
-  pub spells_items : (items : List Line) → IsScript seen items → SpellsItems text items
-  spells_items items script = record { readable = readable; spelled = subst (λ t. IsScript t items) utf8.0 script }
 
   pub line_refused : (why : ScriptFault) (number : ℕ) → IsFaultOf seen why → why ≡ fault.Line number → RefusedText text (script_kind (scripts.Line number))
   line_refused why number h e = wrong_line readable (subst (λ t. FirstWrong t number) utf8.0 (subst (IsFaultOf seen) e h))

@@ -1,7 +1,7 @@
-use Rattle.std.proofs.Common.{rules, sym, ap, ◌∙◌, Some, inr}
-use Rattle.qk_store.specs.Answers.{content, bytes}
+use Rattle.std.proofs.Common.{sym, ap, ◌∙◌, Some}
+use Rattle.qk_store.specs.Answers.{content}
 use Rattle.qk_top.specs.Script.{too_long}
-use Rattle.qk_top.proofs.Readings.{gone_is, long_is, bytes_is, script_came, script_items_read, text_stops}
+use Rattle.qk_top.proofs.Readings.{gone_is, long_is, bytes_is, script_came}
 use Rattle.qk_top.proofs.sources.read_script.Goals as goal
 
 pub returns-in-Gone-clause-found : goal.returns-in-Gone-clause-found

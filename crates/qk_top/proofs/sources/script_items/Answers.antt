@@ -1,5 +1,5 @@
 use Rattle.qk_top.specs.Script.{not_utf8}
-use Rattle.qk_top.proofs.Readings.{spells_items, line_refused, many_refused}
+use Rattle.qk_top.proofs.Readings.{line_refused, many_refused}
 use Rattle.qk_top.proofs.sources.script_items.Goals as goal
 
 pub returns-in_default : goal.returns-in_default
