@@ -1,5 +1,5 @@
 -- What comes of a command, step by step.
-use Rattle.std.proofs.Common.{◌≡◌, ◌≤◌, ℕ, List, refl, sym, ap, ◌∙◌, subst, map, length, Option, Some, None, ◌⊎◌, inl, inr}
+use Rattle.std.proofs.Common.{◌≡◌, ◌≤◌, List, refl, sym, ap, ◌∙◌, subst, map, length, Option, Some, inl, inr}
 use Rattle.std.specs.Prelude.{Result, Ok, Err}
 use Rattle.qk_ast.specs.declared.Module.{Module}
 use Rattle.qk_ast.specs.Tree.{module_tree}
@@ -8,7 +8,7 @@ use Rattle.qk_store.specs.Files.{Files}
 use Rattle.qk_meaning.specs.Value.{Text}
 use Rattle.qk_meaning.specs.Item.{Event}
 use Rattle.qk_meaning.specs.Run.{Line, Happens}
-use Rattle.qk_first.specs.Counter.{Counter, counter_of, first_output}
+use Rattle.qk_first.specs.Counter.{counter_of}
 use Rattle.qk_first.specs.Laws.{RunsAsCounter}
 use Rattle.qk_first.proofs.Law.{first_runs}
 use Rattle.qk_top.specs.declared.shape.Counter.{Counter as Kept}
@@ -16,7 +16,7 @@ use Rattle.qk_top.specs.Script.{SpellsItems, SpellsEvents}
 use Rattle.qk_top.specs.Blocks.{counter_in, played_text}
 use Rattle.qk_top.specs.Standing.{PlaysAs}
 use Rattle.qk_top.specs.Words.{IsReplay}
-use Rattle.qk_top.specs.Answers.{root_name, IsOutput, Plays, RefusedScript, RefusedApplication, gone_script, refused_script, gone_root, refused_root}
+use Rattle.qk_top.specs.Answers.{IsOutput, Plays, gone_script, refused_script, gone_root, refused_root}
 use Rattle.qk_top.specs.Sources.{IsRoot, ScriptComes}
 use Rattle.qk_top.specs.declared.stop.ScriptRefusal.TheVariants as scripts
 use Rattle.qk_top.specs.declared.stop.ApplicationRefusal.TheVariants as application

@@ -1,9 +1,8 @@
 -- Which words are commands.
-use Rattle.std.proofs.Common.{◌≡◌, ◌≤◌, ◌<◌, ℕ, Bool, true, List, [], ◌∷◌, refl, sym, ap, ◌∙◌, subst, length, get_or, map, arith, nat_eq}
-use Rattle.std.specs.Prelude.{codes, string_bytes, IsTrue}
+use Rattle.std.proofs.Common.{◌≡◌, ◌≤◌, ◌<◌, true, List, [], ◌∷◌, refl, length, get_or, map, arith}
+use Rattle.std.specs.Prelude.{codes, string_bytes}
 use Rattle.std.specs.declared.string.String.{String}
 use Rattle.std.specs.declared.alloc.Global.{Global}
-use Rattle.std.specs.Cmp.Lexicographic.{pointwise}
 use Rattle.qk_meaning.specs.Value.{Text}
 use Rattle.qk_top.specs.Words.{IsReplay, is_script_word}
 

@@ -1,6 +1,6 @@
 -- The clauses of the top call, from what comes of the command and how its last line is put.
-use Rattle.std.proofs.Common.{◌≡◌, ◌≤◌, ◌<◌, ℕ, suc, List, [], ◌∷◌, ◌++◌, refl, sym, ap, ◌∙◌, subst, take, append-nil, arith, Option, Some, None, ◌⊎◌, inl, inr}
-use Rattle.std.specs.Prelude.{Result, Ok, Err, codes}
+use Rattle.std.proofs.Common.{◌≡◌, ℕ, List, [], ◌∷◌, ◌++◌, refl, sym, ap, ◌∙◌, subst, append-nil, arith, Option, Some, None, ◌⊎◌, inl, inr}
+use Rattle.std.specs.Prelude.{Result, Err}
 use Rattle.std.specs.Option.{option_map}
 use Rattle.qk_ast.specs.declared.Module.{Module}
 use Rattle.qk_ast.specs.First.{HasFirstForm}
@@ -9,9 +9,6 @@ use Rattle.qk_store.specs.Causes.{Rose}
 use Rattle.qk_store.specs.Pieces.{with_piece, AppendsFront}
 use Rattle.qk_meaning.specs.Value.{Text}
 use Rattle.qk_meaning.specs.Item.{Event}
-use Rattle.qk_meaning.specs.Output.{line}
-use Rattle.qk_top.specs.declared.stop.ScriptRefusal.TheVariants as scripts
-use Rattle.qk_top.specs.declared.stop.ApplicationRefusal.TheVariants as application
 use Rattle.qk_top.specs.declared.stop.Stop.{Stop}
 use Rattle.qk_top.specs.declared.stop.Stop.TheVariants.{Usage, Script, Application, StoreFailed, SinkFailed, Memory}
 use Rattle.qk_top.specs.Words.{IsReplay}

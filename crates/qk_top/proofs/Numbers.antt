@@ -1,10 +1,10 @@
 -- Numbers in digits are what a format writes.
-use Rattle.std.proofs.Common.{◌≡◌, ◌<◌, ◌≤◌, ◌^◌, ◌+◌, ◌/◌, ◌%◌, ℕ, suc, List, [], ◌∷◌, refl, sym, ap, ◌∙◌, arith, append-nil, ℤ, pos, negsuc, true, false}
+use Rattle.std.proofs.Common.{◌≡◌, ◌<◌, ◌≤◌, ◌^◌, ℕ, suc, [], ◌∷◌, refl, sym, ap, ◌∙◌, arith, append-nil, ℤ, pos, negsuc, true, false}
 use lib.Dec.{ltb}
 use lib.Signed.{mag}
 use Rattle.std.specs.Fmt as fmt
 use Rattle.std.proofs.lemmas.Fmt.{PrependsLastDigit, decimal_from_prepends, length-decimal-le}
-use Rattle.qk_meaning.specs.Texts.{digits_before, decimal, integer_text}
+use Rattle.qk_meaning.specs.Texts.{digits_before, decimal}
 use Rattle.qk_top.specs.Decimals.{count_text, number_text}
 
 below_ten : (n : ℕ) → n < 10 → ltb n 10 ≡ true

@@ -1,5 +1,5 @@
 -- The reads of a command, step by step.
-use Rattle.std.proofs.Common.{◌≡◌, ◌∙◌, List, Option, ◌⊎◌, inl, inr}
+use Rattle.std.proofs.Common.{◌∙◌, List, Option, inl, inr}
 use Rattle.qk_store.specs.Answers.{bytes, Answer}
 use Rattle.qk_meaning.specs.Value.{Text}
 use Rattle.qk_meaning.specs.Item.{Event}

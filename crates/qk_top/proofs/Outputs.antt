@@ -1,11 +1,11 @@
 -- The blocks that the program puts are those of the counter.
-use Rattle.std.proofs.Common.{◌≡◌, ℕ, suc, List, [], ◌∷◌, ◌++◌, refl, ap, sym, ◌∙◌, append_assoc, append-nil, Option, Some, None, Bool, true, false, ℤ, unwrap_or}
+use Rattle.std.proofs.Common.{◌≡◌, ℕ, suc, List, [], ◌∷◌, ◌++◌, refl, ap, sym, ◌∙◌, append_assoc, Option, Some, None, Bool, ℤ, unwrap_or}
 use Rattle.std.specs.Prelude.{codes}
 use Rattle.std.specs.Option.{option_map}
 use Rattle.qk_meaning.specs.Value.{Text}
 use Rattle.qk_meaning.specs.Item.{Event}
 use Rattle.qk_meaning.specs.Output.{line}
-use Rattle.qk_first.specs.Counter.{Counter, hears, moved, first_html, html_line, item_line, first_blocks, first_output, attributes_html, shown_number}
+use Rattle.qk_first.specs.Counter.{Counter, hears, moved, html_line, item_line, first_blocks, first_output, attributes_html, shown_number}
 use Rattle.qk_top.specs.Decimals.{count_text, number_text}
 use Rattle.qk_top.specs.Blocks.{id_text, shown_text, item_text, html_text, opening_text, closing_text, moved_text, event_text, events_text, first_text, played_text}
 

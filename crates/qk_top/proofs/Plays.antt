@@ -1,11 +1,11 @@
 -- What a player has put, event by event.
-use Rattle.std.proofs.Common.{◌≡◌, ℕ, suc, ◌+◌, ◌-◌, ◌≤◌, ◌<◌, ◌^◌, List, [], ◌∷◌, ◌++◌, refl, ap, sym, ◌∙◌, subst, length, take, drop, min, get_or, Bool, unwrap_or, append_assoc, append-nil, add-one, map, arith, Option, Some, None, ℤ, pos, negsuc, true, false}
+use Rattle.std.proofs.Common.{◌≡◌, ℕ, suc, ◌+◌, ◌-◌, ◌≤◌, ◌<◌, List, [], ◌∷◌, ◌++◌, refl, ap, sym, ◌∙◌, subst, length, take, drop, min, get_or, Bool, unwrap_or, append_assoc, append-nil, add-one, map, arith, Option, Some, None, ℤ, pos, negsuc, true, false}
 use Rattle.std.specs.Option.{option_map}
 use lib.Signed.{mag}
 use mir.Val.{SFits, of_z, to_z}
 use mir.Syntax.{w64}
 use lib.Dec.{ltb}
-use Rattle.std.proofs.lemmas.Int.{ints, to_z-of_z}
+use Rattle.std.proofs.lemmas.Int.{to_z-of_z}
 use Rattle.std.proofs.Math.Seq.{drop-cons, take-append-add, take-length}
 use Rattle.std.proofs.lemmas.List.{take-append-le, take_min, drop_all, get_or-map}
 use Rattle.std.specs.Prelude.{Result, Err, IsErrOf, OnOk, cond}

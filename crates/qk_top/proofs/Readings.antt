@@ -1,5 +1,5 @@
 -- What a read tells of the file.
-use Rattle.std.proofs.Common.{◌≡◌, ◌≤◌, ◌<◌, ℕ, Bool, true, false, List, refl, sym, ap, ◌∙◌, subst, length, arith, Option, Some, None}
+use Rattle.std.proofs.Common.{◌≡◌, ◌≤◌, ◌<◌, ℕ, Bool, true, false, List, refl, sym, ap, subst, length, arith, Option, Some, None}
 use Rattle.std.specs.Prelude.{nat_lt, if◌then◌else◌}
 use Rattle.std.proofs.Common.{◌⊎◌, inl, inr}
 use Rattle.std.specs.Prelude.{Result, Ok, Err, IfOk, IfErr, IsErrOf}
@@ -10,21 +10,19 @@ use Rattle.qk_top.specs.declared.stop.ApplicationRefusal.TheVariants.{NotBuilt}
 use Rattle.qk_top.specs.declared.stop.Stop.{Stop}
 use Rattle.qk_top.specs.declared.stop.Stop.TheVariants.{Usage, Script, Application, StoreFailed, SinkFailed, Memory}
 use Rattle.qk_top.specs.Answers.{root_name}
-use Rattle.std.specs.Prelude.{map}
 use Rattle.std.specs.declared.vec.Vec.{Vec}
 use Rattle.std.specs.declared.alloc.Global.{Global}
 use Rattle.qk_script.specs.declared.item.ScriptItem.{ScriptItem}
 use Rattle.std.specs.Str.{IsUtf8}
-use Rattle.qk_meaning.specs.Run.{Line}
 use Rattle.qk_script.specs.declared.fault.ScriptFault.{ScriptFault}
 use Rattle.qk_script.specs.declared.fault.ScriptFault.TheVariants as fault
-use Rattle.qk_script.specs.Answer.{item_of, IsScript, FirstWrong, HasTooMany, IsFaultOf}
+use Rattle.qk_script.specs.Answer.{FirstWrong, HasTooMany, IsFaultOf}
 use Rattle.qk_top.specs.Stops.{script_kind}
-use Rattle.qk_top.specs.Script.{IsReadable, SpellsItems, RefusedText, wrong_line, too_many}
+use Rattle.qk_top.specs.Script.{IsReadable, RefusedText, wrong_line, too_many}
 use Rattle.qk_top.specs.Sources.{TextComes, ScriptComes, IsRoot}
 use Rattle.qk_ast.specs.First.{HasFirstForm}
 use Rattle.qk_meaning.specs.Value.{Text}
-use Rattle.qk_store.specs.Answers.{Content, gone, too_long, bytes, reading}
+use Rattle.qk_store.specs.Answers.{gone, too_long, bytes, reading}
 
 not_gone : (b : Bool) (file : List ℕ) → gone ≡ (if b then too_long else bytes file) → ⊥
 not_gone true file h = cc

@@ -1,5 +1,5 @@
 -- Scripts that are played, and those that are refused.
-use Rattle.std.proofs.Common.{◌≡◌, ◌≤◌, ◌<◌, ◌+◌, ℕ, zero, suc, List, [], ◌∷◌, ◌++◌, refl, sym, ap, ◌∙◌, subst, map, length, get_or, take, drop, take_all, arith}
+use Rattle.std.proofs.Common.{◌≡◌, ◌≤◌, ◌<◌, ◌+◌, ℕ, zero, suc, List, [], ◌∷◌, ◌++◌, refl, sym, ap, ◌∙◌, subst, map, length, get_or, take, take_all, arith}
 use Rattle.std.specs.Prelude.{Contains}
 use Rattle.std.proofs.lemmas.List.{length-map, get_or-map, map-append}
 use Rattle.std.proofs.Math.Seq.{take-suc}
@@ -12,7 +12,7 @@ use Rattle.qk_script.specs.declared.item.ScriptItem.TheVariants as item
 use Rattle.qk_script.specs.Answer.{event_of, item_of}
 use Rattle.qk_script.proofs.OneItems.{one_text}
 use Rattle.qk_script.proofs.Apart.{not_wrong, not_many}
-use Rattle.qk_top.specs.Script.{SpellsItems, SpellsEvents, RefusedText, too_long, not_utf8, wrong_line, too_many, with_pause}
+use Rattle.qk_top.specs.Script.{SpellsEvents, RefusedText, too_long, not_utf8, wrong_line, too_many, with_pause}
 
 -- ---- events and pauses
 

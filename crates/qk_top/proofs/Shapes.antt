@@ -1,5 +1,5 @@
 -- What the program reads off the tree of a module of the first form.
-use Rattle.std.specs.Prelude.{◌≡◌, ◌≤◌, refl, ℕ, ℤ, pos, Bool, true, false, List, [], ◌∷◌, ◌++◌, Option, Some, None, codes, IsTrue, nat_le, IsSomeAnd}
+use Rattle.std.specs.Prelude.{◌≡◌, ◌≤◌, refl, ℕ, ℤ, pos, Bool, true, List, [], ◌∷◌, ◌++◌, Option, Some, None, codes, IsTrue, nat_le, IsSomeAnd}
 use Rattle.std.proofs.Common.{ap, sym, ◌∙◌, subst, arith}
 use lib.Signed.{mag}
 use mir.Val.{of_z, to_z}
@@ -15,10 +15,10 @@ use Rattle.qk_ast.specs.declared.Stmt.TheVariants as s
 use Rattle.qk_ast.specs.declared.Link.TheVariants as l
 use Rattle.qk_ast.specs.declared.Body.TheVariants as b
 use Rattle.qk_ast.specs.declared.Tag.TheVariants as t
-use Rattle.qk_ast.specs.declared.Jsx.{Jsx, roll-Jsx, out-Jsx}
+use Rattle.qk_ast.specs.declared.Jsx.{Jsx, roll-Jsx}
 use Rattle.qk_ast.specs.Characters.{Characters, number_after}
 use Rattle.qk_ast.specs.Grammar.{Element, Then, Return_step, Plain_step, Markup, No_statement}
-use Rattle.qk_ast.specs.Tree.{module_tree, statements_tree, element_tree, attributes_tree, children_tree, tag_tree}
+use Rattle.qk_ast.specs.Tree.{module_tree, statements_tree, element_tree, attributes_tree, tag_tree}
 use Rattle.qk_ast.specs.First.{First_text, First_attribute, Id, On_click, Shape, Selfclosing, Empty, Shown, Fits, module_of, attributes_of, element_of, block_of, state_fits}
 use Rattle.qk_meaning.specs.Value.{Text}
 use Rattle.qk_first.specs.Counter.{Counter, counter_of, is_shown, initial_of, listener, first_output}
@@ -30,7 +30,6 @@ use Rattle.qk_top.specs.declared.shape.Counter.{Counter as Kept}
 use Rattle.qk_top.specs.Blocks.{counter_in, id_among, listener_among}
 use Rattle.qk_top.proofs.Plays.{small_fits}
 use Rattle.qk_top.proofs.Outputs.{Alike, output_is, alike_output}
-use Rattle.qk_top.specs.Shape.{attribute_named}
 use Rattle.qk_top.specs.Standing.{has_child, KeepsElement, PlaysAs}
 
 -- the statements of a module of the first form

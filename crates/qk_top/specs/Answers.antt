@@ -1,5 +1,5 @@
 -- What the program answers: each status with its cause, and with all that is printed.
-use Rattle.std.specs.Prelude.{◌≡◌, ℕ, List, [], ◌∷◌, ◌++◌, Option, Some, None, take, codes, map}
+use Rattle.std.specs.Prelude.{◌≡◌, ℕ, List, [], ◌++◌, Some, None, take, codes, map}
 use Rattle.qk_ast.specs.declared.Module.{Module}
 use Rattle.qk_ast.specs.First.{HasFirstForm}
 use Rattle.qk_store.specs.Files.{Files}

@@ -1,5 +1,5 @@
 -- What a command reads of the store, and in which order, as far as the store tells its answers.
-use Rattle.std.specs.Prelude.{◌≡◌, ◌⊎◌, ℕ, List, Option}
+use Rattle.std.specs.Prelude.{◌≡◌, ◌⊎◌, List, Option}
 use Rattle.std.specs.Option.{option_map}
 use Rattle.qk_store.specs.Answers.{Content, bytes, Answer, with_answer}
 use Rattle.qk_meaning.specs.Value.{Text}

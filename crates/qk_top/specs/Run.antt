@@ -1,12 +1,12 @@
 -- The clauses of the top call. The files are those that the store tells at entry, the texts those that the sink tells.
-use Rattle.std.specs.Prelude.{◌≡◌, ◌<◌, ◌⊎◌, ℕ, List, [], ◌∷◌, Option, Some}
+use Rattle.std.specs.Prelude.{◌≡◌, ◌⊎◌, ℕ, List, [], ◌∷◌, Option, Some}
 use Rattle.qk_ast.specs.declared.Module.{Module}
 use Rattle.qk_store.specs.Files.{Files}
 use Rattle.qk_store.specs.Pieces.{AppendsFront}
 use Rattle.qk_store.specs.Causes.{Rose}
 use Rattle.qk_meaning.specs.Value.{Text}
 use Rattle.qk_meaning.specs.Item.{Event}
-use Rattle.qk_top.specs.Answers.{IsUsage, RefusedScript, RefusedApplication, IsAccepted, IsOutput, Answers}
+use Rattle.qk_top.specs.Answers.{RefusedScript, RefusedApplication, IsAccepted, IsOutput, Answers}
 use Rattle.qk_top.specs.Stops.{IsPut}
 
 -- The headline: for an accepted application and script that were played, what is printed is the output of the run of the original module.

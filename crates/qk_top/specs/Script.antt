@@ -1,5 +1,5 @@
 -- Which texts are scripts that are played, and why another one is refused.
-use Rattle.std.specs.Prelude.{◌≡◌, ◌≤◌, ◌<◌, ℕ, List, ◌++◌, length, map, codes, Contains}
+use Rattle.std.specs.Prelude.{◌≤◌, ◌<◌, ℕ, List, ◌++◌, length, map, codes, Contains}
 use Rattle.std.specs.Str.{IsUtf8}
 use Rattle.qk_meaning.specs.Value.{Text}
 use Rattle.qk_meaning.specs.Item.{Event}

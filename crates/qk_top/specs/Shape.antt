@@ -1,7 +1,5 @@
 -- The attributes of an element, by name.
-use Rattle.std.specs.Prelude.{◌≡◌, ℕ, Bool, true, false, List, [], ◌∷◌, Option, Some, None, find}
-use Rattle.std.specs.Option.{option_map}
-use Rattle.qk_ast.specs.declared.Expr.{Expr}
+use Rattle.std.specs.Prelude.{List, Option, find}
 use Rattle.qk_ast.specs.declared.Field.{Field}
 use Rattle.qk_meaning.specs.Value.{Text}
 use Rattle.qk_meaning.specs.Texts.{same_text}

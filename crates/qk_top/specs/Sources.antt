@@ -1,5 +1,5 @@
 -- What is read of the store before a script is played.
-use Rattle.std.specs.Prelude.{◌≡◌, List, Option, Some, None, Result, Ok, Err, map}
+use Rattle.std.specs.Prelude.{◌≡◌, Some, None, Result, Ok, Err, map}
 use Rattle.std.specs.declared.vec.Vec.{Vec}
 use Rattle.std.specs.declared.alloc.Global.{Global}
 use Rattle.qk_ast.specs.declared.Module.{Module}
@@ -11,7 +11,7 @@ use Rattle.qk_script.specs.Answer.{item_of}
 use Rattle.qk_top.specs.declared.stop.ScriptRefusal.TheVariants as script
 use Rattle.qk_top.specs.declared.stop.ApplicationRefusal.TheVariants as application
 use Rattle.qk_top.specs.declared.stop.Stop.{Stop}
-use Rattle.qk_top.specs.declared.stop.Stop.TheVariants.{Usage, Script, Application, StoreFailed, SinkFailed, Memory}
+use Rattle.qk_top.specs.declared.stop.Stop.TheVariants.{Script, Application, StoreFailed, Memory}
 use Rattle.qk_top.specs.Stops.{script_kind}
 use Rattle.qk_top.specs.Script.{SpellsItems, RefusedText}
 use Rattle.qk_top.specs.Answers.{root_name}

@@ -1,5 +1,5 @@
 -- Why a command ends before all is done: the status, the last line, and what shows it.
-use Rattle.std.specs.Prelude.{◌≡◌, ◌≤◌, ℕ, List, [], ◌++◌, Option, Some, Result, IsErrOf, codes}
+use Rattle.std.specs.Prelude.{◌≡◌, ◌≤◌, ℕ, [], ◌++◌, Option, Result, IsErrOf, codes}
 use Rattle.std.specs.Option.{option_map}
 use Rattle.qk_store.specs.Causes.{Rose}
 use Rattle.qk_store.specs.Pieces.{with_piece, AppendsFront}

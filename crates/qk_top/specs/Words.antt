@@ -1,5 +1,5 @@
 -- Which lists of words are commands.
-use Rattle.std.specs.Prelude.{◌≡◌, ◌==◌, Bool, true, false, not, List, [], ◌∷◌, codes, IsTrue}
+use Rattle.std.specs.Prelude.{◌≡◌, ◌==◌, Bool, false, not, List, [], ◌∷◌, codes, IsTrue}
 use Rattle.qk_meaning.specs.Value.{Text}
 
 -- a word that may name a script: it isn't empty, and doesn't begin with `-`

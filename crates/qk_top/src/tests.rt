@@ -20,7 +20,7 @@ struct Row {
     status: u8,
 }
 
-const ROWS: [Row; 6] = [
+const ROWS: [Row; 8] = [
     Row {
         what: "a counter that is clicked three times",
         root: COUNTER,
@@ -50,6 +50,20 @@ const ROWS: [Row; 6] = [
         status: 0,
     },
     Row {
+        what: "a value changes nothing, and nothing hears an event of another kind, also where its letters begin alike",
+        root: COUNTER,
+        script: "click b 7\ninput b 1\nclicks b\nclic b\nclick b \nclick bb\n",
+        prints: "item 0\nhtml <button id=\"b\">0</button>\nitem 1\nhtml <button id=\"b\">1</button>\nitem 2\nnone\nhtml <button id=\"b\">1</button>\nitem 3\nnone\nhtml <button id=\"b\">1</button>\nitem 4\nnone\nhtml <button id=\"b\">1</button>\nitem 5\nhtml <button id=\"b\">2</button>\nitem 6\nnone\nhtml <button id=\"b\">2</button>\n",
+        status: 0,
+    },
+    Row {
+        what: "empty lines are no items, a carriage return ends a line, and the last line may lack its line feed",
+        root: COUNTER,
+        script: "\r\nclick b\r\n\nclick b",
+        prints: "item 0\nhtml <button id=\"b\">0</button>\nitem 1\nhtml <button id=\"b\">1</button>\nitem 2\nhtml <button id=\"b\">2</button>\n",
+        status: 0,
+    },
+    Row {
         what: "a script with a pause",
         root: COUNTER,
         script: "pause",
@@ -73,10 +87,12 @@ fn file(alloc: Global, name: &str, parts: &[&str]) -> Result<(String, Vec<u8>), 
     Ok((String::from_str(alloc, name)?, bytes))
 }
 
-fn files(alloc: Global, root: &str, script: &str) -> Result<Vec<(String, Vec<u8>)>, AllocError> {
+fn files(alloc: Global, root: &str, script: &[u8]) -> Result<Vec<(String, Vec<u8>)>, AllocError> {
+    let mut bytes = Vec::new(alloc);
+    bytes.extend_from_slice(script)?;
     let mut files = Vec::new(alloc);
     files.push(file(alloc, "root.jsx", &[ALL_NAMES, root])?)?;
-    files.push(file(alloc, "s.txt", &[script])?)?;
+    files.push((String::from_str(alloc, "s.txt")?, bytes))?;
     Ok(files)
 }
 
@@ -95,7 +111,7 @@ fn replay<S: Store, K: Sink>(alloc: Global, store: &mut S, out: &mut K) -> Resul
 }
 
 fn shows(rt: &impl Abort, alloc: Global, row: &Row) -> Result<(), Fail> {
-    let mut store = MemStore::new(alloc, files(alloc, row.root, row.script)?, Vec::new(alloc));
+    let mut store = MemStore::new(alloc, files(alloc, row.root, row.script.as_bytes())?, Vec::new(alloc));
     let mut out = MemSink::new(alloc, Vec::new(alloc));
     let status = replay(alloc, &mut store, &mut out)?;
     assert_eq!(rt; out.bytes(), row.prints.as_bytes(), "{}", row.what);
@@ -108,6 +124,63 @@ fn the_worked_examples_print_what_they_must(rt: HostRuntime) -> Result<(), Fail>
     for row in &ROWS {
         shows(&rt, rt.alloc(), row)?;
     }
+    Ok(())
+}
+
+/// What `replay s.txt` prints of the counter and this script, and the status behind it.
+fn played(alloc: Global, script: &[u8]) -> Result<(MemSink, u8), AllocError> {
+    let mut store = MemStore::new(alloc, files(alloc, COUNTER, script)?, Vec::new(alloc));
+    let mut out = MemSink::new(alloc, Vec::new(alloc));
+    let status = replay(alloc, &mut store, &mut out)?;
+    Ok((out, status))
+}
+
+/// So many copies of a line, and an end behind them.
+fn many(alloc: Global, line: &[u8], count: usize, end: &[u8]) -> Result<Vec<u8>, AllocError> {
+    let mut script = Vec::new(alloc);
+    for _ in 0..count {
+        script.extend_from_slice(line)?;
+    }
+    script.extend_from_slice(end)?;
+    Ok(script)
+}
+
+#[test]
+fn each_wrong_script_is_refused_as_its_first_cause(rt: HostRuntime) -> Result<(), Fail> {
+    let alloc = rt.alloc();
+    for (script, kind) in [
+        (many(alloc, b"\n", 1_048_577, b"")?, "ScriptTooLong"),
+        (many(alloc, b"\n", 1_048_576, b"\xff")?, "ScriptTooLong"),
+        (many(alloc, b"", 0, b"click\nclick \xc3\x28")?, "ScriptNotUtf8"),
+        (many(alloc, b"\xed\xa0\x80\n", 1, b"")?, "ScriptNotUtf8"),
+        (many(alloc, b"click\n", 2, b"")?, "ScriptLine 1"),
+        (many(alloc, b"click b\n", 2, b"\n\nclick b\nclick\nwrong")?, "ScriptLine 6"),
+        (many(alloc, b"pause\n", 11, b" click b")?, "ScriptLine 12"),
+        (many(alloc, b"click b\n", 65_537, b"wrong")?, "ScriptLine 65538"),
+        (many(alloc, b"click b\n", 65_536, b"a b")?, "ScriptTooMany"),
+        (many(alloc, b"pause\n", 65_537, b"")?, "ScriptTooMany"),
+        (many(alloc, b"click b\n", 65_535, b"pause")?, "NotBuilt"),
+    ] {
+        let (out, status) = played(alloc, script.as_slice())?;
+        let line = format!(in alloc; "refused {kind}\n")?;
+        assert_eq!(rt; out.bytes(), line.as_bytes());
+        assert_eq!(rt; status, 5, "{kind}");
+    }
+    Ok(())
+}
+
+#[test]
+fn the_longest_script_and_the_most_items_are_played(rt: HostRuntime) -> Result<(), Fail> {
+    let alloc = rt.alloc();
+    let lines = many(alloc, b"\n", 1_048_576, b"")?;
+    let (out, status) = played(alloc, lines.as_slice())?;
+    assert_eq!(rt; out.bytes(), b"item 0\nhtml <button id=\"b\">0</button>\n".as_slice());
+    assert_eq!(rt; status, 0);
+    let clicks = many(alloc, b"click b\n", 65_536, b"")?;
+    let (out, status) = played(alloc, clicks.as_slice())?;
+    let last = b"\nitem 65536\nhtml <button id=\"b\">65536</button>\n".as_slice();
+    assert!(rt; out.bytes().ends_with(last));
+    assert_eq!(rt; status, 0);
     Ok(())
 }
 
@@ -137,7 +210,7 @@ fn a_put_that_fails_leaves_half_a_block(rt: HostRuntime) -> Result<(), Fail> {
     let alloc = rt.alloc();
     let mut store = MemStore::new(
         alloc,
-        files(alloc, COUNTER, "click b\nclick b\nclick b")?,
+        files(alloc, COUNTER, b"click b\nclick b\nclick b")?,
         Vec::new(alloc),
     );
     let mut failing = Vec::new(alloc);
@@ -154,7 +227,7 @@ fn a_read_that_fails_is_told(rt: HostRuntime) -> Result<(), Fail> {
     let alloc = rt.alloc();
     let mut failing = Vec::new(alloc);
     failing.push(2)?;
-    let mut store = MemStore::new(alloc, files(alloc, COUNTER, "click b")?, failing);
+    let mut store = MemStore::new(alloc, files(alloc, COUNTER, b"click b")?, failing);
     let mut out = MemSink::new(alloc, Vec::new(alloc));
     assert_eq!(rt; replay(alloc, &mut store, &mut out)?, 6);
     assert_eq!(rt; out.bytes(), b"store failed\n".as_slice());

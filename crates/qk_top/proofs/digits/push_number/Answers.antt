@@ -1,4 +1,4 @@
-use Rattle.std.proofs.Common.{rules, arith}
+use Rattle.std.proofs.Common.{rules}
 use Rattle.qk_top.proofs.Numbers.{number_written}
 use Rattle.qk_top.proofs.digits.push_number.Goals as goal
 

@@ -1,4 +1,4 @@
-use Rattle.std.proofs.Common.{rules, arith, refl, sym, ◌∙◌, length}
+use Rattle.std.proofs.Common.{rules, arith, refl, ◌∙◌}
 use Rattle.std.proofs.lemmas.List.{length-map}
 use Rattle.qk_script.specs.Answer.{event_of}
 use Rattle.qk_top.proofs.Plays.{first_front, played_none, played_more, played_all, played_front, played_in_bits, event_there, handed_on, whole_front}

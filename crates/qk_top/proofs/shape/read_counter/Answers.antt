@@ -1,4 +1,4 @@
-use Rattle.std.proofs.Common.{rules, ◌≡◌, sym, ap, ◌∙◌}
+use Rattle.std.proofs.Common.{◌≡◌, sym, ap, ◌∙◌}
 use Rattle.qk_top.proofs.Shapes.{items_are, parts_read, read_as, in_bits}
 use Rattle.qk_top.proofs.shape.read_counter.Goals as goal
 
