@@ -136,7 +136,7 @@ fn played(alloc: Global, script: &[u8]) -> Result<(MemSink, u8), AllocError> {
 }
 
 /// So many copies of a line, and an end behind them.
-fn many(alloc: Global, line: &[u8], count: usize, end: &[u8]) -> Result<Vec<u8>, AllocError> {
+fn lines(alloc: Global, line: &[u8], count: usize, end: &[u8]) -> Result<Vec<u8>, AllocError> {
     let mut script = Vec::new(alloc);
     for _ in 0..count {
         script.extend_from_slice(line)?;
@@ -145,21 +145,28 @@ fn many(alloc: Global, line: &[u8], count: usize, end: &[u8]) -> Result<Vec<u8>,
     Ok(script)
 }
 
+/// A click whose value fills the script up to so many bytes.
+fn long_click(alloc: Global, bytes: usize, last: u8) -> Result<Vec<u8>, AllocError> {
+    let mut script = lines(alloc, b"click b ", 1, b"")?;
+    script.resize(bytes - 1, b'x')?;
+    script.push(last)?;
+    Ok(script)
+}
+
 #[test]
 fn each_wrong_script_is_refused_as_its_first_cause(rt: HostRuntime) -> Result<(), Fail> {
     let alloc = rt.alloc();
     for (script, kind) in [
-        (many(alloc, b"\n", 1_048_577, b"")?, "ScriptTooLong"),
-        (many(alloc, b"\n", 1_048_576, b"\xff")?, "ScriptTooLong"),
-        (many(alloc, b"", 0, b"click\nclick \xc3\x28")?, "ScriptNotUtf8"),
-        (many(alloc, b"\xed\xa0\x80\n", 1, b"")?, "ScriptNotUtf8"),
-        (many(alloc, b"click\n", 2, b"")?, "ScriptLine 1"),
-        (many(alloc, b"click b\n", 2, b"\n\nclick b\nclick\nwrong")?, "ScriptLine 6"),
-        (many(alloc, b"pause\n", 11, b" click b")?, "ScriptLine 12"),
-        (many(alloc, b"click b\n", 65_537, b"wrong")?, "ScriptLine 65538"),
-        (many(alloc, b"click b\n", 65_536, b"a b")?, "ScriptTooMany"),
-        (many(alloc, b"pause\n", 65_537, b"")?, "ScriptTooMany"),
-        (many(alloc, b"click b\n", 65_535, b"pause")?, "NotBuilt"),
+        (long_click(alloc, 1_048_577, b'x')?, "ScriptTooLong"),
+        (long_click(alloc, 1_048_577, 0xff)?, "ScriptTooLong"),
+        (long_click(alloc, 1_048_576, 0xff)?, "ScriptNotUtf8"),
+        (lines(alloc, b"click\n", 1, b"click \xc3\x28")?, "ScriptNotUtf8"),
+        (lines(alloc, b"click\n", 2, b"")?, "ScriptLine 1"),
+        (lines(alloc, b"click b\n", 2, b"\n\nclick b\nclick\nwrong")?, "ScriptLine 6"),
+        (lines(alloc, b"pause\n", 11, b" click b")?, "ScriptLine 12"),
+        (lines(alloc, b"pause\n", 65_537, b"wrong")?, "ScriptLine 65538"),
+        (lines(alloc, b"pause\n", 65_536, b"a b")?, "ScriptTooMany"),
+        (lines(alloc, b"pause\n", 65_536, b"")?, "NotBuilt"),
     ] {
         let (out, status) = played(alloc, script.as_slice())?;
         let line = format!(in alloc; "refused {kind}\n")?;
@@ -172,11 +179,11 @@ fn each_wrong_script_is_refused_as_its_first_cause(rt: HostRuntime) -> Result<()
 #[test]
 fn the_longest_script_and_the_most_items_are_played(rt: HostRuntime) -> Result<(), Fail> {
     let alloc = rt.alloc();
-    let lines = many(alloc, b"\n", 1_048_576, b"")?;
-    let (out, status) = played(alloc, lines.as_slice())?;
-    assert_eq!(rt; out.bytes(), b"item 0\nhtml <button id=\"b\">0</button>\n".as_slice());
+    let (out, status) = played(alloc, long_click(alloc, 1_048_576, b'x')?.as_slice())?;
+    let printed = b"item 0\nhtml <button id=\"b\">0</button>\nitem 1\nhtml <button id=\"b\">1</button>\n";
+    assert_eq!(rt; out.bytes(), printed.as_slice());
     assert_eq!(rt; status, 0);
-    let clicks = many(alloc, b"click b\n", 65_536, b"")?;
+    let clicks = lines(alloc, b"click b\n", 65_536, b"")?;
     let (out, status) = played(alloc, clicks.as_slice())?;
     let last = b"\nitem 65536\nhtml <button id=\"b\">65536</button>\n".as_slice();
     assert!(rt; out.bytes().ends_with(last));
