@@ -1,6 +1,6 @@
 -- The clauses of the top call, from what comes of the command and how its last line is put.
 use Rattle.std.proofs.Common.{◌≡◌, ℕ, List, [], ◌∷◌, ◌++◌, refl, sym, ap, ◌∙◌, subst, append-nil, arith, Option, Some, None, ◌⊎◌, inl, inr}
-use Rattle.std.specs.Prelude.{Result, Err}
+use Rattle.std.specs.Prelude.{Result, Err, codes}
 use Rattle.std.specs.Option.{option_map}
 use Rattle.qk_ast.specs.declared.Module.{Module}
 use Rattle.qk_ast.specs.First.{HasFirstForm}
@@ -9,17 +9,18 @@ use Rattle.qk_store.specs.Causes.{Rose}
 use Rattle.qk_store.specs.Pieces.{with_piece, AppendsFront}
 use Rattle.qk_meaning.specs.Value.{Text}
 use Rattle.qk_meaning.specs.Item.{Event}
+use Rattle.qk_meaning.specs.Output.{line}
 use Rattle.qk_top.specs.declared.stop.Stop.{Stop}
 use Rattle.qk_top.specs.declared.stop.Stop.TheVariants.{Usage, Script, Application, StoreFailed, SinkFailed, Memory}
 use Rattle.qk_top.specs.Words.{IsReplay}
-use Rattle.qk_top.specs.Script.{SpellsEvents}
+use Rattle.qk_top.specs.Script.{SpellsEvents, RefusedText}
 use Rattle.qk_top.specs.Answers.{root_name, IsUsage, Plays, RefusedScript, gone_script, refused_script, RefusedApplication, gone_root, refused_root, IsAccepted, IsOutput, Answers, played, usage, application as refused_application, script, store_failed, IsFront, nothing, begun, memory, memory_alone}
 use Rattle.qk_top.specs.Stops.{status_of, last_line_of, EndsForFaults, IsPut, PutsLastLine, whole, in_part, in_want, Finishes}
 use Rattle.qk_top.specs.Coming.{CommandPlays, CommandComes}
 use Rattle.qk_top.specs.Run.{IsOneOf, Comes}
 use Rattle.qk_top.proofs.Plays.{front_behind, pieces_join}
 use Rattle.qk_parse.proofs.One.{one_first}
-use Rattle.qk_top.proofs.Scripts.{one_script, not_refused}
+use Rattle.qk_top.proofs.Scripts.{one_script, not_refused, one_refusal}
 
 put_nothing : (o : Option (List ℕ)) → o ≡ option_map (with_piece []) o
 put_nothing None = refl
@@ -135,6 +136,30 @@ module _ (words : List Text) (told : Files) where
   printed_front SinkFailed before between after f g status comes ends seven = (0, comes.0, accepted_answer comes.0 comes.1, record { taken = comes.2.taken; appended = ends.1 ∙ comes.2.appended })
   printed_front Memory before between after f g status (inl same) ends seven = memory_front before between after f g status [] nothing (same ∙ put_nothing before) ends seven
   printed_front Memory before between after f g status (inr part) ends seven = memory_front before between after f g status _ (begun part.2.taken part.1.accepted part.1.printed) part.2.appended ends seven
+
+  -- ---- the line of a refused script
+
+  one_cause : (a b : Text) → RefusedScript words told a → RefusedScript words told b → a ≡ b
+  one_cause a b (gone_script command gone) (gone_script other missing) = refl
+  one_cause a b (gone_script command gone) (refused_script {text = text} other stands refused) = absurd (not_both (told _) text stands (ap told (same_script words _ _ other command) ∙ gone))
+  one_cause a b (refused_script {text = text} command stands refused) (gone_script other gone) = absurd (not_both (told _) text stands (ap told (same_script words _ _ command other) ∙ gone))
+  one_cause a b (refused_script {text = text} command stands refused) (refused_script {text = same} other found again) =
+      one_refusal text a b refused (subst (λ t. RefusedText t b) (same_some same text (sym found ∙ ap told (same_script words _ _ other command) ∙ stands)) again)
+
+  line_answered : (status : ℕ) (text kind : Text) → Answers words told status text → status ≡ 5 → RefusedScript words told kind → text ≡ line (codes "refused " ++ kind)
+  line_answered status text kind (played accepted printed) five given = absurd (omega (arith, five))
+  line_answered status text kind (usage none) five given = absurd (omega (arith, five))
+  line_answered status text kind (refused_application refused) five given = absurd (omega (arith, five))
+  line_answered status text kind (script {kind = own} refused) five given = ap (λ k. line (codes "refused " ++ k)) (one_cause own kind refused given)
+  line_answered status text kind store_failed five given = absurd (omega (arith, five))
+  line_answered status text kind (memory front) five given = absurd (omega (arith, five))
+  line_answered status text kind (memory_alone front) five given = absurd (omega (arith, five))
+
+  pub script_line_put : (stop : Stop) (before between after : Option Text) (f g status : ℕ) (kind : Text) → CommandComes words told before between (Err stop) → Finishes stop between after f g status → RefusedScript words told kind → status ≡ 5
+      → IsPut (line (codes "refused " ++ kind)) before after
+  script_line_put stop before between after f g status kind comes ends refused five =
+      let whole = printed_whole stop before between after f g status comes ends (λ seven. omega (arith, five, seven)) in
+      subst (λ t. IsPut t before after) (line_answered status whole.0 kind whole.1 five refused) whole.2
 
   -- ---- one cause excludes the others
 

@@ -1,6 +1,6 @@
 -- Scripts that are played, and those that are refused.
 use Rattle.std.proofs.Common.{◌≡◌, ◌≤◌, ◌<◌, ◌+◌, ℕ, zero, suc, List, [], ◌∷◌, ◌++◌, refl, sym, ap, ◌∙◌, subst, map, length, get_or, take, take_all, arith}
-use Rattle.std.specs.Prelude.{Contains}
+use Rattle.std.specs.Prelude.{Contains, codes}
 use Rattle.std.proofs.lemmas.List.{length-map, get_or-map, map-append}
 use Rattle.std.proofs.Math.Seq.{take-suc}
 use Rattle.qk_meaning.specs.Value.{Text}
@@ -11,8 +11,11 @@ use Rattle.qk_script.specs.declared.item.ScriptItem.{ScriptItem}
 use Rattle.qk_script.specs.declared.item.ScriptItem.TheVariants as item
 use Rattle.qk_script.specs.Answer.{event_of, item_of}
 use Rattle.qk_script.proofs.OneItems.{one_text}
-use Rattle.qk_script.proofs.Apart.{not_wrong, not_many}
-use Rattle.qk_top.specs.Script.{SpellsEvents, RefusedText, too_long, not_utf8, wrong_line, too_many, with_pause}
+use Rattle.std.specs.Str.{IsUtf8}
+use Rattle.qk_script.specs.Answer.{FirstWrong, HasTooMany}
+use Rattle.qk_script.proofs.Apart.{not_wrong, not_many, one_wrong}
+use Rattle.qk_top.specs.Decimals.{count_text}
+use Rattle.qk_top.specs.Script.{IsReadable, SpellsItems, SpellsEvents, RefusedText, too_long, not_utf8, wrong_line, too_many, with_pause}
 
 -- ---- events and pauses
 
@@ -58,6 +61,53 @@ not_refused text events kind spells (wrong_line {number = number} readable wrong
 not_refused text events kind spells (too_many readable many) = not_many text (map Happens events) spells.spelled many
 not_refused text events kind spells (with_pause {items = items} other pause) =
     no_pause events (subst (λ l. Contains l Pauses) (one_text text items (map Happens events) other.spelled.0 spells.spelled.0) pause)
+
+-- ---- a text has one refusal at most
+
+too_short : (text : Text) {A : Type 0} → length text ≤ 1048576 → 1048576 < length text → A
+too_short text short long = absurd (omega (arith, short, long))
+
+behind_long : (text kind : Text) → 1048576 < length text → RefusedText text kind → kind ≡ codes "ScriptTooLong"
+behind_long text kind long (too_long again) = refl
+behind_long text kind long (not_utf8 short none) = too_short text short long
+behind_long text kind long (wrong_line readable wrong) = too_short text readable.short long
+behind_long text kind long (too_many readable many) = too_short text readable.short long
+behind_long text kind long (with_pause spells pause) = too_short text spells.readable.short long
+
+behind_bytes : (text kind : Text) → length text ≤ 1048576 → ¬ IsUtf8 text → RefusedText text kind → kind ≡ codes "ScriptNotUtf8"
+behind_bytes text kind short none (too_long long) = too_short text short long
+behind_bytes text kind short none (not_utf8 again other) = refl
+behind_bytes text kind short none (wrong_line readable wrong) = absurd (none readable.utf8)
+behind_bytes text kind short none (too_many readable many) = absurd (none readable.utf8)
+behind_bytes text kind short none (with_pause spells pause) = absurd (none spells.readable.utf8)
+
+behind_wrong : (text kind : Text) (number : ℕ) → IsReadable text → FirstWrong text number → RefusedText text kind → kind ≡ codes "ScriptLine " ++ count_text number
+behind_wrong text kind number readable wrong (too_long long) = too_short text readable.short long
+behind_wrong text kind number readable wrong (not_utf8 short none) = absurd (none readable.utf8)
+behind_wrong text kind number readable wrong (wrong_line {number = other} again first) = ap (λ n. codes "ScriptLine " ++ count_text n) (one_wrong text other number first wrong)
+behind_wrong text kind number readable wrong (too_many again many) = absurd (not_wrong text many.items number many.spelled wrong)
+behind_wrong text kind number readable wrong (with_pause {items = items} spells pause) = absurd (not_wrong text items number spells.spelled.0 wrong)
+
+behind_many : (text kind : Text) → IsReadable text → HasTooMany text → RefusedText text kind → kind ≡ codes "ScriptTooMany"
+behind_many text kind readable many (too_long long) = too_short text readable.short long
+behind_many text kind readable many (not_utf8 short none) = absurd (none readable.utf8)
+behind_many text kind readable many (wrong_line {number = number} again wrong) = absurd (not_wrong text many.items number many.spelled wrong)
+behind_many text kind readable many (too_many again others) = refl
+behind_many text kind readable many (with_pause {items = items} spells pause) = absurd (not_many text items spells.spelled many)
+
+behind_pause : (text kind : Text) (items : List Line) → SpellsItems text items → RefusedText text kind → kind ≡ codes "NotBuilt"
+behind_pause text kind items spells (too_long long) = too_short text spells.readable.short long
+behind_pause text kind items spells (not_utf8 short none) = absurd (none spells.readable.utf8)
+behind_pause text kind items spells (wrong_line {number = number} readable wrong) = absurd (not_wrong text items number spells.spelled.0 wrong)
+behind_pause text kind items spells (too_many readable many) = absurd (not_many text items spells.spelled many)
+behind_pause text kind items spells (with_pause again pause) = refl
+
+pub one_refusal : (text a b : Text) → RefusedText text a → RefusedText text b → a ≡ b
+one_refusal text a b (too_long long) r = sym (behind_long text b long r)
+one_refusal text a b (not_utf8 short none) r = sym (behind_bytes text b short none r)
+one_refusal text a b (wrong_line {number = number} readable wrong) r = sym (behind_wrong text b number readable wrong r)
+one_refusal text a b (too_many readable many) r = sym (behind_many text b readable many r)
+one_refusal text a b (with_pause {items = items} spells pause) r = sym (behind_pause text b items spells r)
 
 -- ---- the items so far are these events
 

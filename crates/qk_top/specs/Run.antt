@@ -1,11 +1,12 @@
 -- The clauses of the top call. The files are those that the store tells at entry, the texts those that the sink tells.
-use Rattle.std.specs.Prelude.{◌≡◌, ◌⊎◌, ℕ, List, [], ◌∷◌, Option, Some}
+use Rattle.std.specs.Prelude.{◌≡◌, ◌⊎◌, ℕ, List, [], ◌∷◌, ◌++◌, Option, Some, codes}
 use Rattle.qk_ast.specs.declared.Module.{Module}
 use Rattle.qk_store.specs.Files.{Files}
 use Rattle.qk_store.specs.Pieces.{AppendsFront}
 use Rattle.qk_store.specs.Causes.{Rose}
 use Rattle.qk_meaning.specs.Value.{Text}
 use Rattle.qk_meaning.specs.Item.{Event}
+use Rattle.qk_meaning.specs.Output.{line}
 use Rattle.qk_top.specs.Answers.{RefusedScript, RefusedApplication, IsAccepted, IsOutput, Answers}
 use Rattle.qk_top.specs.Stops.{IsPut}
 
@@ -29,6 +30,11 @@ Printed words files before after status =
 abbrev pub PrintedFront : List Text → Option Files → Option Text → Option Text → ℕ → Type 0
 PrintedFront words files before after status =
     (told : Files) → files ≡ Some told → status ≡ 7 → (other : ℕ) × (text : Text) × Answers words told other text × AppendsFront text before after
+
+-- With status 5 the cause that holds of the script is printed.
+abbrev pub ScriptLine : List Text → Option Files → Option Text → Option Text → ℕ → Type 0
+ScriptLine words files before after status =
+    (told : Files) (kind : Text) → files ≡ Some told → RefusedScript words told kind → status ≡ 5 → IsPut (line (codes "refused " ++ kind)) before after
 
 -- one of these statuses
 abbrev pub IsOneOf : ℕ → List ℕ → Type 0

@@ -6,7 +6,7 @@ ghost use Rattle.qk_meaning.specs.Output.{line};
 ghost use Rattle.qk_top.specs.Answers.{IsUsage};
 ghost use Rattle.qk_top.specs.Stops.{IsPut, PutsLastLine, Finishes};
 ghost use Rattle.qk_top.specs.Reads.{ReadsInOrder};
-ghost use Rattle.qk_top.specs.Run.{Headline, Complete, Printed, PrintedFront, Comes, IsOneOf};
+ghost use Rattle.qk_top.specs.Run.{Headline, Complete, Printed, PrintedFront, Comes, ScriptLine, IsOneOf};
 
 use crate::replay::replay;
 use crate::stop::Stop;
@@ -30,6 +30,7 @@ pub fn run<S: Store, K: Sink>(alloc: Global, words: &[String], store: &mut S, ou
     ensures usage { IsUsage (map string_bytes words.now) → IsOneOf result (1 ∷ 7 ∷ 8 ∷ []) }
     ensures usage_line { result ≡ 1 → IsPut (line (codes "usage")) (K.bytes out.old) (K.bytes out.new) }
     ensures usage_only { result ≡ 1 → IsUsage (map string_bytes words.now) }
+    ensures script_line { ScriptLine (map string_bytes words.now) (S.files store.old) (K.bytes out.old) (K.bytes out.new) result }
     ensures statuses { IsOneOf result (0 ∷ 1 ∷ 2 ∷ 5 ∷ 6 ∷ 7 ∷ 8 ∷ []) }
 
     // A fault of the outside is answered only where its count rose; where one rose, no other status hides it.

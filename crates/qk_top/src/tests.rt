@@ -111,7 +111,11 @@ fn replay<S: Store, K: Sink>(alloc: Global, store: &mut S, out: &mut K) -> Resul
 }
 
 fn shows(rt: &impl Abort, alloc: Global, row: &Row) -> Result<(), Fail> {
-    let mut store = MemStore::new(alloc, files(alloc, row.root, row.script.as_bytes())?, Vec::new(alloc));
+    let mut store = MemStore::new(
+        alloc,
+        files(alloc, row.root, row.script.as_bytes())?,
+        Vec::new(alloc),
+    );
     let mut out = MemSink::new(alloc, Vec::new(alloc));
     let status = replay(alloc, &mut store, &mut out)?;
     assert_eq!(rt; out.bytes(), row.prints.as_bytes(), "{}", row.what);
@@ -160,11 +164,20 @@ fn each_wrong_script_is_refused_as_its_first_cause(rt: HostRuntime) -> Result<()
         (long_click(alloc, 1_048_577, b'x')?, "ScriptTooLong"),
         (long_click(alloc, 1_048_577, 0xff)?, "ScriptTooLong"),
         (long_click(alloc, 1_048_576, 0xff)?, "ScriptNotUtf8"),
-        (lines(alloc, b"click\n", 1, b"click \xc3\x28")?, "ScriptNotUtf8"),
+        (
+            lines(alloc, b"click\n", 1, b"click \xc3\x28")?,
+            "ScriptNotUtf8",
+        ),
         (lines(alloc, b"click\n", 2, b"")?, "ScriptLine 1"),
-        (lines(alloc, b"click b\n", 2, b"\n\nclick b\nclick\nwrong")?, "ScriptLine 6"),
+        (
+            lines(alloc, b"click b\n", 2, b"\n\nclick b\nclick\nwrong")?,
+            "ScriptLine 6",
+        ),
         (lines(alloc, b"pause\n", 11, b" click b")?, "ScriptLine 12"),
-        (lines(alloc, b"pause\n", 65_537, b"wrong")?, "ScriptLine 65538"),
+        (
+            lines(alloc, b"pause\n", 65_537, b"wrong")?,
+            "ScriptLine 65538",
+        ),
         (lines(alloc, b"pause\n", 65_536, b"a b")?, "ScriptTooMany"),
         (lines(alloc, b"pause\n", 65_536, b"")?, "NotBuilt"),
     ] {
@@ -180,7 +193,8 @@ fn each_wrong_script_is_refused_as_its_first_cause(rt: HostRuntime) -> Result<()
 fn the_longest_script_and_the_most_items_are_played(rt: HostRuntime) -> Result<(), Fail> {
     let alloc = rt.alloc();
     let (out, status) = played(alloc, long_click(alloc, 1_048_576, b'x')?.as_slice())?;
-    let printed = b"item 0\nhtml <button id=\"b\">0</button>\nitem 1\nhtml <button id=\"b\">1</button>\n";
+    let printed =
+        b"item 0\nhtml <button id=\"b\">0</button>\nitem 1\nhtml <button id=\"b\">1</button>\n";
     assert_eq!(rt; out.bytes(), printed.as_slice());
     assert_eq!(rt; status, 0);
     let clicks = lines(alloc, b"click b\n", 65_536, b"")?;

@@ -1,5 +1,5 @@
 use Rattle.std.proofs.Common.{ap, Err}
-use Rattle.qk_top.proofs.Ends.{printed_whole, printed_front, comes_played, comes_ended, complete_ended, headline_played}
+use Rattle.qk_top.proofs.Ends.{script_line_put, printed_whole, printed_front, comes_played, comes_ended, complete_ended, headline_played}
 use Rattle.qk_top.proofs.Usage.{usage_put}
 use Rattle.qk_top.specs.Answers.{played}
 use Rattle.qk_top.proofs.command.run.Goals as goal
@@ -32,3 +32,6 @@ returns-in-Err-clause-comes g c told e = comes_ended _ told _ _ _ _ _ _ _ (c.in-
 
 pub returns-in-Err-clause-usage_line : goal.returns-in-Err-clause-usage_line
 returns-in-Err-clause-usage_line g c one = usage_put _ _ _ _ _ _ _ c.finish.ensures one (λ e. c.in-Err.ensures.unput (ap Err e))
+
+pub returns-in-Err-clause-script_line : goal.returns-in-Err-clause-script_line
+returns-in-Err-clause-script_line g c told kind e refused five = script_line_put _ told _ _ _ _ _ _ _ kind (c.in-Err.ensures.comes told e) c.finish.ensures refused five
