@@ -1,0 +1,4 @@
+pub mod Pieces
+pub mod View
+pub mod Reads
+pub mod Seen

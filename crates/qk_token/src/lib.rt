@@ -1,0 +1,12 @@
+//! The tokens of a module as the parser meets them: what they are, a cursor over those that are left, and what comes ahead.
+#![tactic(auto)]
+
+mod ahead;
+mod fault;
+mod token;
+mod tokens;
+
+pub use ahead::{Kind, Level, arrow_ahead, known_ahead};
+pub use fault::Fault;
+pub use token::{Edge, Token, is_word};
+pub use tokens::{Tokens, first_is_sign, is_sign};

@@ -1,0 +1,186 @@
+//! A cursor over the tokens that are left.
+
+ghost use Rattle.std.specs.Prelude.{◌≡◌, ◌≤◌, ◌<◌, ◌+◌, ◌^◌, true, chars, length};
+ghost use Rattle.std.specs.Option.{option_map};
+ghost use Rattle.qk_ast.specs.Characters.{Characters};
+ghost use Rattle.qk_reading.specs.Input as spec;
+ghost use Rattle.qk_token.specs.Reads.{Reads, ReadsAs};
+ghost use Rattle.qk_token.specs.View.{is_ascii, token_of, tokens_of};
+
+use crate::fault::Fault;
+use crate::token::{Token, is_word};
+use std::marker::Model;
+
+/// The tokens that are left, and how many arrows came before.
+#[derive(Drop)]
+pub struct Tokens<'s, 't> {
+    rest: &'s [Token<'t>],
+    arrows: u32,
+}
+
+impl<'s, 't> Model for Tokens<'s, 't> {
+    ghost use Rattle.qk_reading.specs.Input.{Input, at};
+    ghost use Rattle.qk_token.specs.View.{tokens_of};
+    ghost use Rattle.std.specs.Prelude.{ℕ, ◌+◌, ◌<◌, ◌^◌, length};
+
+    ghost Value = { Input };
+
+    ghost view = { λ t. at (tokens_of t.rest.now) t.arrows };
+
+    ghost invariant = { λ t. t.arrows + length t.rest.now < 2 ^ 32 };
+}
+
+/// Whether the token is that sign.
+pub fn is_sign(sign: &[u8], token: Token<'_>) -> bool
+    requires { is_ascii sign.now ≡ true }
+    ensures { result ≡ spec.is (spec.Sign sign.now) (token_of token.entry) }
+{
+    match token {
+        Token::Punct(text) => is_word(text, sign),
+        _ => false,
+    }
+}
+
+/// Whether the first of the tokens is that sign.
+pub fn first_is_sign(sign: &[u8], tokens: &[Token<'_>]) -> bool
+    requires { is_ascii sign.now ≡ true }
+    ensures { result ≡ spec.first_is (spec.Sign sign.now) (tokens_of tokens.now) }
+{
+    match tokens {
+        [token, ..] => is_sign(sign, *token),
+        [] => false,
+    }
+}
+
+fn rest<'s, 't>(tokens: &'s [Token<'t>]) -> &'s [Token<'t>]
+    ensures rest { tokens_of result.now ≡ spec.rest (tokens_of tokens.now) }
+    ensures shorter { length result.now ≤ length tokens.now }
+{
+    match tokens {
+        [_, rest @ ..] => rest,
+        [] => tokens,
+    }
+}
+
+impl<'s, 't> Tokens<'s, 't> {
+    /// The tokens of a whole text, before which no arrow came.
+    pub fn new(tokens: &'s [Token<'t>]) -> Tokens<'s, 't>
+        requires { length tokens.now < 2 ^ 32 }
+        ensures { result ≡ spec.at (tokens_of tokens.now) 0 }
+    {
+        Tokens {
+            rest: tokens,
+            arrows: 0,
+        }
+    }
+
+    /// The tokens that are left, on loan.
+    pub fn ahead(&self) -> &'s [Token<'t>]
+        ensures { tokens_of result.now ≡ self.now.tokens }
+    {
+        self.rest
+    }
+
+    /// How many tokens are left.
+    pub fn left(&self) -> usize
+        ensures { result ≡ spec.left self.now }
+    {
+        self.rest.len()
+    }
+
+    /// No module goes on with the next token.
+    pub fn refuse(&self) -> Fault
+        ensures { result ≡ Fault.Syntax (spec.left self.now) }
+    {
+        Fault::Syntax(self.rest.len())
+    }
+
+    /// With the token before, the nesting passes its limit.
+    pub fn too_deep(&self) -> Fault
+        ensures { result ≡ Fault.TooDeep (spec.left self.now + 1) }
+    {
+        Fault::TooDeep(self.rest.len() + 1)
+    }
+
+    /// The next token.
+    pub fn peek(&self) -> Option<Token<'t>>
+        ensures { option_map token_of result ≡ spec.first self.now.tokens }
+    {
+        match self.rest {
+            [token, ..] => Some(*token),
+            [] => None,
+        }
+    }
+
+    /// Passes over the next token.
+    pub fn take(&mut self)
+        ensures { self.new ≡ spec.advance self.old }
+    {
+        self.rest = rest(self.rest);
+    }
+
+    /// Whether that sign comes next.
+    #[tactic(auto, unfolding(qk_reading::specs::Input::sees))]
+    pub fn sees(&self, sign: &[u8]) -> bool
+        requires { is_ascii sign.now ≡ true }
+        ensures { result ≡ spec.sees (spec.Sign sign.now) self.now }
+    {
+        first_is_sign(sign, self.rest)
+    }
+
+    /// Takes that sign, where it comes next.
+    #[tactic(auto, unfolding(qk_reading::specs::Input::after))]
+    pub fn eat(&mut self, sign: &[u8]) -> bool
+        requires { is_ascii sign.now ≡ true }
+        ensures found { result ≡ spec.sees (spec.Sign sign.now) self.old }
+        ensures after { self.new ≡ spec.after (spec.Sign sign.now) self.old }
+    {
+        let found = self.sees(sign);
+        if found {
+            self.take();
+        }
+        found
+    }
+
+    /// Takes that sign, which must come next.
+    #[tactic(auto, unfolding(qk_reading::specs::Input::expect))]
+    pub fn expect(&mut self, sign: &[u8]) -> Result<(), Fault>
+        requires { is_ascii sign.now ≡ true }
+        ensures { Reads (spec.expect (spec.Sign sign.now) self.old) result self.new }
+    {
+        if self.sees(sign) {
+            self.take();
+            Ok(())
+        } else {
+            Err(self.refuse())
+        }
+    }
+
+    /// Takes a name.
+    #[tactic(auto, unfolding(qk_reading::specs::Input::name_that))]
+    pub fn name(&mut self) -> Result<&'t str, Fault>
+        ensures { ReadsAs (λ s. chars s.now) (spec.name self.old) result self.new }
+    {
+        match self.peek() {
+            Some(Token::Name(name)) => {
+                self.take();
+                Ok(name)
+            }
+            _ => Err(self.refuse()),
+        }
+    }
+
+    /// Takes the sign of an arrow, and gives the arrow its number.
+    #[tactic(auto, unfolding(qk_reading::specs::Input::number, qk_reading::specs::Input::sees))]
+    pub fn number(&mut self) -> Result<u32, Fault>
+        ensures { Reads (spec.number self.old) result self.new }
+    {
+        if !self.sees(b"=>") {
+            return Err(self.refuse());
+        }
+        let number = self.arrows;
+        self.take();
+        self.arrows += 1;
+        Ok(number)
+    }
+}
