@@ -1,7 +1,8 @@
 -- The grammar's token that a token is, and what is left of the tokens.
-use Rattle.std.specs.Prelude.{ℕ, Bool, true, ◌&&◌, nat_lt, List, [], ◌∷◌, map, chars}
+use Rattle.std.specs.Prelude.{◌≡◌, ℕ, Bool, true, ◌&&◌, nat_lt, List, [], ◌∷◌, map, chars}
 use Rattle.qk_ast.specs.Characters.{Characters}
 use Rattle.qk_ast.specs.Tokens as tokens
+use Rattle.qk_ast.specs.Tokens.{is_int}
 use Rattle.qk_token.specs.declared.token.Token.{Token}
 use Rattle.qk_token.specs.declared.token.Token.TheVariants.{Name, Reserved, Int, Text, Attribute, Template, Punct, Begin, JsxText}
 use Rattle.qk_token.specs.declared.token.Edge.{Edge}
@@ -29,3 +30,12 @@ token_of (JsxText text) = tokens.JsxText (chars text.now)
 
 abbrev pub tokens_of : List Token → List tokens.Token
 tokens_of found = map token_of found
+
+-- an integer is one that a module may write
+abbrev pub Fits : Token → Type 0
+Fits (Int text) = is_int (chars text.now) ≡ true
+Fits _ = Unit {0}
+
+abbrev pub AllFit : List Token → Type 0
+AllFit [] = Unit {0}
+AllFit (t ∷ ts) = Fits t × AllFit ts

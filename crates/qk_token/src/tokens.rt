@@ -1,11 +1,13 @@
 //! A cursor over the tokens that are left.
 
-ghost use Rattle.std.specs.Prelude.{◌≡◌, ◌≤◌, ◌<◌, ◌+◌, ◌^◌, true, chars, length};
+ghost use Rattle.std.specs.Prelude.{◌≡◌, ◌≤◌, ◌<◌, ◌+◌, ◌^◌, true, pos, chars, length, Some};
 ghost use Rattle.std.specs.Option.{option_map};
-ghost use Rattle.qk_ast.specs.Characters.{Characters};
+ghost use Rattle.qk_ast.specs.Characters.{Characters, number_after};
+ghost use Rattle.qk_ast.specs.Tokens as grammar;
+ghost use Rattle.qk_ast.specs.Tokens.{is_int};
 ghost use Rattle.qk_reading.specs.Input as spec;
 ghost use Rattle.qk_token.specs.Reads.{Reads, ReadsAs};
-ghost use Rattle.qk_token.specs.View.{is_ascii, token_of, tokens_of};
+ghost use Rattle.qk_token.specs.View.{is_ascii, token_of, tokens_of, AllFit};
 
 use crate::fault::Fault;
 use crate::token::{Token, is_word};
@@ -20,14 +22,14 @@ pub struct Tokens<'s, 't> {
 
 impl<'s, 't> Model for Tokens<'s, 't> {
     ghost use Rattle.qk_reading.specs.Input.{Input, at};
-    ghost use Rattle.qk_token.specs.View.{tokens_of};
+    ghost use Rattle.qk_token.specs.View.{tokens_of, AllFit};
     ghost use Rattle.std.specs.Prelude.{ℕ, ◌+◌, ◌<◌, ◌^◌, length};
 
     ghost Value = { Input };
 
     ghost view = { λ t. at (tokens_of t.rest.now) t.arrows };
 
-    ghost invariant = { λ t. t.arrows + length t.rest.now < 2 ^ 32 };
+    ghost invariant = { λ t. (t.arrows + length t.rest.now < 2 ^ 32) × AllFit t.rest.now };
 }
 
 /// Whether the token is that sign.
@@ -37,6 +39,28 @@ pub fn is_sign(sign: &[u8], token: Token<'_>) -> bool
 {
     match token {
         Token::Punct(text) => is_word(text, sign),
+        _ => false,
+    }
+}
+
+/// Whether the token is that reserved word.
+fn is_reserved(word: &[u8], token: Token<'_>) -> bool
+    requires { is_ascii word.now ≡ true }
+    ensures { result ≡ spec.is (spec.Word word.now) (token_of token.entry) }
+{
+    match token {
+        Token::Reserved(text) => is_word(text, word),
+        _ => false,
+    }
+}
+
+/// Whether the token is that name.
+fn is_given(name: &[u8], token: Token<'_>) -> bool
+    requires { is_ascii name.now ≡ true }
+    ensures { result ≡ spec.is (spec.Given name.now) (token_of token.entry) }
+{
+    match token {
+        Token::Name(text) => is_word(text, name),
         _ => false,
     }
 }
@@ -52,9 +76,22 @@ pub fn first_is_sign(sign: &[u8], tokens: &[Token<'_>]) -> bool
     }
 }
 
+/// The number that the digits write.
+fn int_value(digits: &str) -> i64
+    requires { is_int (chars digits.now) ≡ true }
+    ensures { result ≡ pos (number_after 10 0 (chars digits.now)) }
+{
+    let mut value: i64 = 0;
+    for digit in digits.chars() {
+        value = value * 10 + digit as i64;
+    }
+    value
+}
+
 fn rest<'s, 't>(tokens: &'s [Token<'t>]) -> &'s [Token<'t>]
     ensures rest { tokens_of result.now ≡ spec.rest (tokens_of tokens.now) }
     ensures shorter { length result.now ≤ length tokens.now }
+    ensures fits { AllFit tokens.now → AllFit result.now }
 {
     match tokens {
         [_, rest @ ..] => rest,
@@ -65,7 +102,8 @@ fn rest<'s, 't>(tokens: &'s [Token<'t>]) -> &'s [Token<'t>]
 impl<'s, 't> Tokens<'s, 't> {
     /// The tokens of a whole text, before which no arrow came.
     pub fn new(tokens: &'s [Token<'t>]) -> Tokens<'s, 't>
-        requires { length tokens.now < 2 ^ 32 }
+        requires few { length tokens.now < 2 ^ 32 }
+        requires fit { AllFit tokens.now }
         ensures { result ≡ spec.at (tokens_of tokens.now) 0 }
     {
         Tokens {
@@ -112,6 +150,16 @@ impl<'s, 't> Tokens<'s, 't> {
         }
     }
 
+    /// The number of the integer that comes next; 0 where none does.
+    pub fn int(&self) -> i64
+        ensures { (digits : Characters) → spec.first self.now.tokens ≡ Some (grammar.Int digits) → result ≡ pos (number_after 10 0 digits) }
+    {
+        match self.rest {
+            [Token::Int(digits), ..] => int_value(digits),
+            _ => 0,
+        }
+    }
+
     /// Passes over the next token.
     pub fn take(&mut self)
         ensures { self.new ≡ spec.advance self.old }
@@ -149,6 +197,71 @@ impl<'s, 't> Tokens<'s, 't> {
         ensures { Reads (spec.expect (spec.Sign sign.now) self.old) result self.new }
     {
         if self.sees(sign) {
+            self.take();
+            Ok(())
+        } else {
+            Err(self.refuse())
+        }
+    }
+
+    /// Whether that reserved word comes next.
+    #[tactic(auto, unfolding(qk_reading::specs::Input::sees))]
+    pub fn sees_word(&self, word: &[u8]) -> bool
+        requires { is_ascii word.now ≡ true }
+        ensures { result ≡ spec.sees (spec.Word word.now) self.now }
+    {
+        match self.rest {
+            [token, ..] => is_reserved(word, *token),
+            [] => false,
+        }
+    }
+
+    /// Takes that reserved word, where it comes next.
+    #[tactic(auto, unfolding(qk_reading::specs::Input::after))]
+    pub fn eat_word(&mut self, word: &[u8]) -> bool
+        requires { is_ascii word.now ≡ true }
+        ensures found { result ≡ spec.sees (spec.Word word.now) self.old }
+        ensures after { self.new ≡ spec.after (spec.Word word.now) self.old }
+    {
+        let found = self.sees_word(word);
+        if found {
+            self.take();
+        }
+        found
+    }
+
+    /// Takes that reserved word, which must come next.
+    #[tactic(auto, unfolding(qk_reading::specs::Input::expect))]
+    pub fn expect_word(&mut self, word: &[u8]) -> Result<(), Fault>
+        requires { is_ascii word.now ≡ true }
+        ensures { Reads (spec.expect (spec.Word word.now) self.old) result self.new }
+    {
+        if self.sees_word(word) {
+            self.take();
+            Ok(())
+        } else {
+            Err(self.refuse())
+        }
+    }
+
+    #[tactic(auto, unfolding(qk_reading::specs::Input::sees))]
+    fn sees_given(&self, name: &[u8]) -> bool
+        requires { is_ascii name.now ≡ true }
+        ensures { result ≡ spec.sees (spec.Given name.now) self.now }
+    {
+        match self.rest {
+            [token, ..] => is_given(name, *token),
+            [] => false,
+        }
+    }
+
+    /// Takes that name, which must come next.
+    #[tactic(auto, unfolding(qk_reading::specs::Input::expect))]
+    pub fn expect_name(&mut self, name: &[u8]) -> Result<(), Fault>
+        requires { is_ascii name.now ≡ true }
+        ensures { Reads (spec.expect (spec.Given name.now) self.old) result self.new }
+    {
+        if self.sees_given(name) {
             self.take();
             Ok(())
         } else {

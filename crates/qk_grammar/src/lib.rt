@@ -1,0 +1,8 @@
+//! Reading a module's tree off its tokens: a function for each rule of the reader (`qk_reading`), proved equal to it but for want of memory.
+//!
+//! What nests one level deeper is read by three function values of `Grammar`, so that each rule is proved by itself.
+#![tactic(auto)]
+
+mod grammar;
+mod lists;
+mod read;
