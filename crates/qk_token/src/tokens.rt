@@ -76,18 +76,6 @@ pub fn first_is_sign(sign: &[u8], tokens: &[Token<'_>]) -> bool
     }
 }
 
-/// The number that the digits write.
-fn int_value(digits: &str) -> i64
-    requires { is_int (chars digits.now) ≡ true }
-    ensures { result ≡ pos (number_after 10 0 (chars digits.now)) }
-{
-    let mut value: i64 = 0;
-    for digit in digits.chars() {
-        value = value * 10 + digit as i64;
-    }
-    value
-}
-
 fn rest<'s, 't>(tokens: &'s [Token<'t>]) -> &'s [Token<'t>]
     ensures rest { tokens_of result.now ≡ spec.rest (tokens_of tokens.now) }
     ensures shorter { length result.now ≤ length tokens.now }
@@ -147,16 +135,6 @@ impl<'s, 't> Tokens<'s, 't> {
         match self.rest {
             [token, ..] => Some(*token),
             [] => None,
-        }
-    }
-
-    /// The number of the integer that comes next; 0 where none does.
-    pub fn int(&self) -> i64
-        ensures { (digits : Characters) → spec.first self.now.tokens ≡ Some (grammar.Int digits) → result ≡ pos (number_after 10 0 digits) }
-    {
-        match self.rest {
-            [Token::Int(digits), ..] => int_value(digits),
-            _ => 0,
         }
     }
 
