@@ -4,5 +4,7 @@
 #![tactic(auto)]
 
 mod grammar;
+mod levels;
 mod lists;
+mod parts;
 mod read;
