@@ -3,6 +3,7 @@
 
 mod ahead;
 mod fault;
+mod front;
 mod token;
 mod tokens;
 mod written;
