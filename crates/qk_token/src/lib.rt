@@ -4,6 +4,7 @@
 mod ahead;
 mod fault;
 mod front;
+mod pieces;
 mod token;
 mod tokens;
 mod written;
