@@ -1,3 +1,4 @@
 pub mod Hex
 pub mod Numbers
+pub mod PieceLemmas
 pub mod Words

@@ -1,6 +1,6 @@
 -- The pieces that a text or a template's part is written with, read off its characters. Every text has some: a backslash that begins no escape is a
 -- piece of its own, and an escape by a number that no character has is U+FFFD. Tokens have no such pieces.
-use Rattle.std.specs.Prelude.{ℕ, zero, suc, if◌then◌else◌, ◌==◌, List, [], ◌∷◌, length, take, drop, Option, Some, None}
+use Rattle.std.specs.Prelude.{ℕ, zero, suc, Bool, not, ◌&&◌, if◌then◌else◌, ◌==◌, List, [], ◌∷◌, length, take, drop, Option, Some, None}
 use Rattle.std.specs.Str.{all_scalars}
 use Rattle.qk_ast.specs.Characters.{Characters, is_hex_digit, run, after_run}
 use Rattle.qk_ast.specs.Tokens.{Piece, Plain, Escaped, Four, Braced, Return, Return_feed, piece_value}
@@ -41,6 +41,10 @@ pieces_from (suc n) (c ∷ cs) = (first_piece c cs).0 ∷ pieces_from n (first_p
 -- each piece takes a character at least
 unfoldable pub pieces_of : Characters → List Piece
 pieces_of text = pieces_from (length text) text
+
+-- a character that is a piece of its own, whatever follows it
+abbrev pub stands_alone : ℕ → Bool
+stands_alone c = not (c == 92) && not (c == 13)
 
 -- the character that a piece stands for, and what follows it
 abbrev pub shown : Piece × Characters → ℕ × Characters

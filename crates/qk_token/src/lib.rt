@@ -13,4 +13,4 @@ pub use ahead::{Kind, Level, arrow_ahead, known_ahead};
 pub use fault::Fault;
 pub use token::{Edge, Token, is_word};
 pub use tokens::{Tokens, first_is_sign, is_sign};
-pub use written::{attribute_text, jsx_text, name_text};
+pub use written::{attribute_text, jsx_text, name_text, written_text};
