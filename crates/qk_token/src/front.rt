@@ -1,8 +1,9 @@
 //! Reading a text from its front and from its end.
 
-ghost use Rattle.std.specs.Prelude.{◌≡◌, ◌<◌, ◌≤◌, [], ◌∷◌, length, drop, chars, IfSome, MatchOption};
+ghost use Rattle.std.specs.Prelude.{◌≡◌, ◌<◌, ◌≤◌, [], ◌∷◌, ◌++◌, length, drop, chars, IfSome, MatchOption};
 ghost use Rattle.std.specs.Option.{option_map};
 ghost use Rattle.qk_lex.specs.Scan.{after_char};
+ghost use Rattle.qk_token.specs.Lexed.{first_of, last_of, without_last};
 
 /// The first character of a text, and what follows it.
 pub(crate) fn split_first(text: &str) -> Option<(char, &str)>
@@ -35,5 +36,46 @@ pub(crate) fn without_first(text: &str) -> &str
     match split_first(text) {
         None => text,
         Some((_, rest)) => rest,
+    }
+}
+
+/// What stands before the last character of a text, and that character.
+pub(crate) fn split_last(text: &str) -> Option<(&str, char)>
+    ensures value { MatchOption result (chars text.now ≡ []) (λ p. chars text.now ≡ chars p.0.now ++ p.1 ∷ []) }
+{
+    let mut characters = text.chars();
+    match characters.next_back() {
+        None => None,
+        Some(c) => Some((characters.as_str(), c)),
+    }
+}
+
+/// The first character; NUL where there is none.
+pub(crate) fn first_of(text: &str) -> char
+    ensures { result ≡ first_of (chars text.now) }
+{
+    match split_first(text) {
+        None => '\0',
+        Some((c, _)) => c,
+    }
+}
+
+/// The last character; NUL where there is none.
+pub(crate) fn last_of(text: &str) -> char
+    ensures { result ≡ last_of (chars text.now) }
+{
+    match split_last(text) {
+        None => '\0',
+        Some((_, c)) => c,
+    }
+}
+
+/// What stands before the last character.
+pub(crate) fn without_last(text: &str) -> &str
+    ensures { chars result.now ≡ without_last (chars text.now) }
+{
+    match split_last(text) {
+        None => text,
+        Some((rest, _)) => rest,
     }
 }

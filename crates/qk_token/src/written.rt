@@ -9,7 +9,7 @@ ghost use Rattle.qk_token.specs.declared.fault.Fault.TheVariants.{Memory};
 
 use crate::fault::Fault;
 use crate::front::split_first;
-use crate::pieces::first_character;
+use crate::escapes::first_character;
 use qk_shared::Text;
 use std::alloc::{AllocError, Global};
 

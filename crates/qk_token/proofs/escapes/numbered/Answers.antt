@@ -2,7 +2,7 @@ use Rattle.std.proofs.Common.{◌∙◌, ap, length, rules}
 use Rattle.std.specs.Str.{chars, IsUtf8}
 use Rattle.qk_token.specs.Pieces.{by_digits, shown}
 use Rattle.qk_token.proofs.Hex.{braced_there, characters_few}
-use Rattle.qk_token.proofs.pieces.numbered.Goals as goal
+use Rattle.qk_token.proofs.escapes.numbered.Goals as goal
 
 pub returns-in-Some-clause-value : goal.returns-in-Some-clause-value
 returns-in-Some-clause-value c =

@@ -3,7 +3,7 @@ use Rattle.std.specs.Str.{chars}
 use denote.Text.{Utf8}
 use denote.Shadow.{shadow}
 use Rattle.qk_token.proofs.Hex.{Reading}
-use Rattle.qk_token.proofs.pieces.hex_character.Given as goal
+use Rattle.qk_token.proofs.escapes.hex_character.Given as goal
 
 abbrev pub invariant-loop : goal.invariant-loop
 invariant-loop l = record {

@@ -1,7 +1,7 @@
 use Rattle.std.proofs.Common.{◌∙◌, rules}
 use Rattle.std.specs.Str.{chars}
 use Rattle.qk_token.proofs.Hex.{begins, value_stops, rest_stops, value_ends, rest_ends, goes_on}
-use Rattle.qk_token.proofs.pieces.hex_character.Goals as goal
+use Rattle.qk_token.proofs.escapes.hex_character.Goals as goal
 
 pub loop-init : goal.loop-init
 loop-init c = record { utf8 = search rules; reading = begins _ _; within = search rules }
