@@ -1,1 +1,5 @@
+pub mod Ends
+pub mod Hex
+pub mod Numbers
+pub mod PieceLemmas
 pub mod Words
