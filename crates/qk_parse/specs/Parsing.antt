@@ -4,7 +4,7 @@ use Rattle.qk_ast.specs.declared.Form.{Form}
 use Rattle.qk_ast.specs.declared.Module.{Module}
 use Rattle.qk_ast.specs.Tokens.{Token, Tokens}
 use Rattle.qk_ast.specs.Faults.{LexicalAt}
-use Rattle.qk_ast.specs.Derives.{Parses, longest, deepest}
+use Rattle.qk_ast.specs.Derives.{Derives, Parses, longest, deepest}
 use Rattle.qk_reading.specs.Laws.{ParsesWithin, RaisedPast}
 use Rattle.qk_token.specs.Lexed.{Listed, Lexes, place_of}
 use Rattle.qk_parse.specs.declared.parse.ParseFault.{ParseFault}
@@ -37,3 +37,8 @@ Refused form text (Lexical at) = (length text ≤ longest form) × LexicalAt (ch
 Refused form text (Syntax at) = (length text ≤ longest form) × SyntaxAt form text at
 Refused form text (TooDeep at) = (length text ≤ longest form) × TooDeepAt form text at
 Refused form text Memory = Unit {0}
+
+-- a refused text derives no module, unless memory ran out
+abbrev pub NoneDerived : Form → List ℕ → ParseFault → Type 0
+NoneDerived form text Memory = Unit {0}
+NoneDerived form text fault = (m : Module) → ¬ Derives form text m

@@ -28,3 +28,69 @@ pub enum ParseFault {
     /// Memory ran out.
     Memory,
 }
+
+impl From<LexFault> for ParseFault {
+    ghost from_gives = { λ fault e. e ≡ of_lex fault };
+
+    fn from(fault: LexFault) -> ParseFault {
+        match fault {
+            LexFault::Lexical { at } => ParseFault::Lexical { at },
+            LexFault::Memory => ParseFault::Memory,
+        }
+    }
+}
+
+/// The greatest length of a text of the form, in bytes.
+fn longest(form: Form) -> usize
+    ensures { result ≡ definition.longest form }
+{
+    match form {
+        Form::Source => limits::MODULE_BYTES,
+        Form::Built => limits::BUILT_FILE_BYTES,
+    }
+}
+
+/// The greatest nesting of a module of the form.
+fn deepest(form: Form) -> usize
+    ensures { result ≡ definition.deepest form }
+{
+    match form {
+        Form::Source => limits::NESTING as usize,
+        Form::Built => 1024,
+    }
+}
+
+/// The fault at its byte.
+fn placed(lexed: &Lexed<'_>, fault: Fault) -> ParseFault
+    requires syntax { (left : _) → fault ≡ Fault.Syntax left → left ≤ length lexed.now.tokens }
+    requires deep { (left : _) → fault ≡ Fault.TooDeep left → left ≤ length lexed.now.tokens }
+    ensures { result ≡ placed lexed.now fault }
+{
+    match fault {
+        Fault::Memory => ParseFault::Memory,
+        Fault::Syntax(left) => ParseFault::Syntax {
+            at: lexed.place_of(left),
+        },
+        Fault::TooDeep(left) => ParseFault::TooDeep {
+            at: lexed.place_of(left),
+        },
+    }
+}
+
+/// The module that the text derives in the form.
+///
+/// `TooLong` comes first, then `Lexical`; then, of `Syntax` and `TooDeep`, the one that stands first. Each comes only where the text derives no module.
+pub fn parse_module(alloc: Global, text: &str, form: Form) -> Result<Module, ParseFault>
+    ensures derived { IfOk result (λ m. definition.Derives form text.now m) }
+    ensures refused { IfErr result (Refused form text.now) }
+    ensures none { IfErr result (NoneDerived form text.now) }
+{
+    if longest(form) < text.len() {
+        return Err(ParseFault::TooLong);
+    }
+    let lexed = lex(alloc, text)?;
+    match read_module(alloc, form, deepest(form), lexed.tokens()) {
+        Ok(module) => Ok(module),
+        Err(fault) => Err(placed(&lexed, fault)),
+    }
+}
