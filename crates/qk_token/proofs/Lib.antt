@@ -3,3 +3,4 @@ pub mod Hex
 pub mod Numbers
 pub mod PieceLemmas
 pub mod Words
+pub mod Counts
