@@ -18,12 +18,12 @@ characters_last text rest before c e h u s =
     ap chars (sym e ∙ h) ∙ (chars-append rest (encode_utf8 c) u
     ∙ ap (λ t. chars rest ++ t) (chars_past_char (encode_utf8 c) [] c (IsUtf8-encode c s) (sym (append-nil (encode_utf8 c))) ∙ ap (λ t. c ∷ t) chars-nil))
 
-last_there : (a : Characters) (c : ℕ) → last_of (a ++ c ∷ []) ≡ c
+pub last_there : (a : Characters) (c : ℕ) → last_of (a ++ c ∷ []) ≡ c
 last_there [] c = refl
 last_there (x ∷ []) c = refl
 last_there (x ∷ y ∷ a) c = last_there (y ∷ a) c
 
-before_last : (a : Characters) (c : ℕ) → without_last (a ++ c ∷ []) ≡ a
+pub before_last : (a : Characters) (c : ℕ) → without_last (a ++ c ∷ []) ≡ a
 before_last [] c = refl
 before_last (x ∷ []) c = refl
 before_last (x ∷ y ∷ a) c = ap (λ t. x ∷ t) (before_last (y ∷ a) c)

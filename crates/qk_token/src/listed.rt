@@ -82,6 +82,53 @@ fn token_from(kind: Kind, jsx: bool, text: &str) -> Token<'_>
     }
 }
 
-pub fn lex<'t>(text: &'t str) -> Token<'t> {
-    token_from(Kind::Name, false, text)
+/// The token that was found in the text.
+fn token_at(text: &str, found: qk_lex::Token) -> Token<'_>
+    requires start { IsCharBoundary text.now found.start }
+    requires end { IsCharBoundary text.now found.end }
+    requires order { found.start ≤ found.end }
+    ensures { token_of result ≡ token_written found.kind found.jsx (chars (slice_range text.now found.start found.end)) }
+{
+    token_from(found.kind, found.jsx, &text[found.start..found.end])
+}
+
+/// The tokens of a whole text, and the place of each.
+///
+/// `Lexical` comes exactly where the text has no token list, at the first byte where no token begins.
+pub fn lex<'t>(alloc: Global, text: &'t str) -> Result<Lexed<'t>, LexFault>
+    ensures listed { IfOk result (Lexes (chars text.now)) }
+    ensures refused { IfErr result (Refused (chars text.now)) }
+{
+    let found = qk_lex::tokens(alloc, text)?;
+    let mut tokens = Vec::with_capacity(alloc, found.len())?;
+    for token in &found {
+        tokens.push(token_at(text, *token))?;
+    }
+    Ok(Lexed {
+        tokens,
+        places: found,
+        end: text.len(),
+    })
+}
+
+impl<'t> Lexed<'t> {
+    /// The tokens, on loan.
+    pub fn tokens(&self) -> &[Token<'t>]
+        ensures tokens { tokens_of result.now ≡ self.now.tokens }
+        ensures fit { AllFit result.now }
+    {
+        self.tokens.as_slice()
+    }
+
+    /// The byte where the tokens begin of which so many are left; where none is left, the text ends there.
+    pub fn place_of(&self, left: usize) -> usize
+        requires { left ≤ length self.now.tokens }
+        ensures { result ≡ spec.place_of left self.now }
+    {
+        if left == 0 {
+            self.end
+        } else {
+            self.places[self.places.len() - left].start
+        }
+    }
 }
