@@ -9,7 +9,6 @@ use Rattle.qk_ast.specs.declared.Known.{Known}
 use Rattle.qk_ast.specs.declared.Known.TheVariants as known
 use Rattle.qk_ast.specs.Tree.{bytes}
 use Rattle.qk_reading.specs.Input as input
-use Rattle.qk_reading.specs.Input.{◌<$>◌}
 use Rattle.qk_token.specs.Seen.{kind_of}
 use Rattle.qk_grammar.specs.declared.lists.Args.{Args}
 use Rattle.qk_grammar.specs.declared.links.LinkRead.{LinkRead}
@@ -48,7 +47,3 @@ method_of known.Trunc = l.Prop (bytes (codes "trunc")) ∷ []
 -- a call by that name that is one as any other
 abbrev pub named_call : Known → List Expr → input.Head
 named_call k args = input.headed (object_of k) input.Called (method_of k ++ l.Call args ∷ [])
-
--- without whether none or a comma was last
-abbrev pub items_of : {A : Type 0} → input.Reader (List A × Bool) → input.Reader (List A)
-items_of read = (λ found. found.0) <$> read

@@ -1,6 +1,6 @@
 //! What an expression begins with: an atom, or a call by a known name.
 
-ghost use Rattle.std.specs.Prelude.{◌≡◌, ◌∷◌, [], IfOk, chars, codes};
+ghost use Rattle.std.specs.Prelude.{◌≡◌, ◌∷◌, [], true, IfOk, codes};
 ghost use Rattle.qk_ast.specs.Tree.{bytes};
 ghost use Rattle.qk_reading.specs.Input as input;
 ghost use Rattle.qk_reading.specs.Parts as parts;
@@ -8,6 +8,7 @@ ghost use Rattle.qk_reading.specs.Forms as forms;
 ghost use Rattle.qk_reading.specs.Reader.{nesting};
 ghost use Rattle.qk_token.specs.Reads.{Reads, ReadsAs};
 ghost use Rattle.qk_token.specs.Seen.{kind_of};
+ghost use Rattle.qk_token.specs.View.{is_ascii};
 ghost use Rattle.qk_grammar.specs.Nests.{Values, Bodies, Groups};
 ghost use Rattle.qk_grammar.specs.Seen.{head_of};
 ghost use Rattle.qk_grammar.specs.FormsSeen.{args_of, named_call, object_of, method_of};
@@ -16,23 +17,34 @@ use crate::grammar::Grammar;
 use crate::lists::{Args, enter};
 use crate::read::{Group, Head, Inner, Read};
 use qk_ast::{Body, Expr, Form, Known, Link, Stmt};
-use qk_shared::{Builder, List};
-use qk_token::{Fault, Kind, Tokens, known_ahead, name_text};
+use qk_shared::{Builder, List, Text};
+use qk_token::{Fault, Kind, Tokens, known_ahead};
 use std::alloc::{AllocError, Global};
+
+/// A name of ASCII.
+#[tactic(auto, using(crate::proofs::Words::ascii_bytes))]
+fn ascii_text(alloc: Global, name: &str) -> Result<Text, AllocError>
+    requires { is_ascii name.now ≡ true }
+    ensures { IfOk result (λ t. t ≡ bytes name.now) }
+{
+    Text::from_str(alloc, name)
+}
 
 /// A name's expression.
 fn named(alloc: Global, name: &str) -> Result<Expr, AllocError>
-    ensures { IfOk result (λ x. x ≡ Expr.Name (bytes (chars name.now))) }
+    requires { is_ascii name.now ≡ true }
+    ensures { IfOk result (λ x. x ≡ Expr.Name (bytes name.now)) }
 {
-    Ok(Expr::Name(name_text(alloc, name)?))
+    Ok(Expr::Name(ascii_text(alloc, name)?))
 }
 
 /// The one link to a member of that name.
 fn member(alloc: Global, name: &str) -> Result<Builder<Link>, AllocError>
-    ensures { IfOk result (λ links. links ≡ Link.Prop (bytes (chars name.now)) ∷ []) }
+    requires { is_ascii name.now ≡ true }
+    ensures { IfOk result (λ links. links ≡ Link.Prop (bytes name.now) ∷ []) }
 {
     let mut links = Builder::new(alloc);
-    links.push(Link::Prop(name_text(alloc, name)?))?;
+    links.push(Link::Prop(ascii_text(alloc, name)?))?;
     Ok(links)
 }
 

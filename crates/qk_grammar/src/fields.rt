@@ -9,7 +9,7 @@ ghost use Rattle.qk_reading.specs.Forms as forms;
 ghost use Rattle.qk_reading.specs.Reader.{nesting};
 ghost use Rattle.qk_token.specs.Reads.{Reads};
 ghost use Rattle.qk_grammar.specs.Nests.{Values, Bodies, Groups};
-ghost use Rattle.qk_grammar.specs.FormsSeen.{items_of};
+ghost use Rattle.qk_grammar.specs.Seen.{items_of};
 
 use crate::grammar::Grammar;
 use crate::lists::enter;

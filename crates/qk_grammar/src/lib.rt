@@ -9,6 +9,8 @@ mod fields;
 mod grammar;
 mod holes;
 mod links;
+mod levels;
 mod lists;
+mod parts;
 mod read;
 mod temporary;

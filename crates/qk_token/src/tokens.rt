@@ -100,6 +100,16 @@ impl<'s, 't> Tokens<'s, 't> {
         }
     }
 
+    /// A cursor of its own over the same tokens.
+    pub fn fork(&self) -> Tokens<'s, 't>
+        ensures { result ≡ self.now }
+    {
+        Tokens {
+            rest: self.rest,
+            arrows: self.arrows,
+        }
+    }
+
     /// The tokens that are left, on loan.
     pub fn ahead(&self) -> &'s [Token<'t>]
         ensures { tokens_of result.now ≡ self.now.tokens }
