@@ -1,7 +1,7 @@
 //! Records.
 
 ghost use Rattle.std.specs.Prelude.{◌≡◌, chars, codes};
-ghost use Rattle.qk_ast.specs.Characters.{is_one_of};
+ghost use Rattle.qk_ast.specs.Characters.{same, is_one_of};
 ghost use Rattle.qk_ast.specs.Tree.{bytes};
 ghost use Rattle.qk_reading.specs.Input as input;
 ghost use Rattle.qk_reading.specs.Parts as parts;
@@ -20,14 +20,23 @@ use qk_shared::{Builder, List, Text};
 use qk_token::{Fault, Token, Tokens, name_text};
 use std::alloc::Global;
 
-/// Whether a field has the key.
-fn has_key(found: &Builder<Field>, key: &Text) -> bool
-    ensures { result ≡ is_one_of key.now (parts.keys found.now) }
+/// Whether both keys have the same bytes.
+#[tactic(auto, using(crate::proofs::Words::same_bytes))]
+fn is_same(key: &Text, other: &Text) -> bool
+    ensures { result ≡ same key.now other.now }
 {
-    for field in found.as_slice() {
-        if key.is_same(&field.key) {
+    key.is_same(other)
+}
+
+/// Whether one of the fields has the key.
+fn has_key(mut fields: &[Field], key: &Text) -> bool
+    ensures { result ≡ is_one_of key.now (parts.keys fields.entry.now) }
+{
+    while let [field, more @ ..] = fields {
+        if is_same(key, &field.key) {
             return true;
         }
+        fields = more;
     }
     false
 }
@@ -37,7 +46,7 @@ fn has_key(found: &Builder<Field>, key: &Text) -> bool
 fn fresh(tokens: &mut Tokens<'_, '_>, found: &Builder<Field>, key: &Text) -> Result<(), Fault>
     ensures { Reads (parts.fresh key.now found.now tokens.old) result tokens.new }
 {
-    if has_key(found, key) {
+    if has_key(found.as_slice(), key) {
         return Err(tokens.refuse());
     }
     tokens.take();
