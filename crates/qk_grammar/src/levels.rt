@@ -74,15 +74,6 @@ impl<
     G: Fn(Global, &mut Tokens<'_, '_>, Form, usize, Group) -> Result<List<Stmt>, Fault>,
 > Grammar<V, B, G>
 {
-    #[tactic(auto, unfolding(qk_reading::specs::Forms::postfix))]
-    pub fn postfix(&self, tokens: &mut Tokens<'_, '_>) -> Result<Read, Fault>
-        requires { Values self.now.form self.now.room (V.pre self.now.value) (V.post self.now.value) }
-        ensures { ReadsAs read_of (forms.postfix self.now.form self.now.room (nesting self.now.form self.now.room) tokens.old) result tokens.new }
-    {
-        let _ = tokens;
-        Err(Fault::Memory)
-    }
-
     /// An operand behind `!` or `-`.
     fn prefixed(&self, tokens: &mut Tokens<'_, '_>, op: Un) -> Result<Read, Fault>
         requires { Values self.now.form self.now.room (V.pre self.now.value) (V.post self.now.value) }
