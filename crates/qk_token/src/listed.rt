@@ -17,6 +17,7 @@ use std::marker::Model;
 #[derive(Drop)]
 pub struct Lexed<'t> {
     tokens: Vec<Token<'t>>,
+    /// Where they stand in the text.
     places: Vec<qk_lex::Token>,
     /// Where the text ends.
     end: usize,
