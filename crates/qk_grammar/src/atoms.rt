@@ -16,8 +16,7 @@ use crate::grammar::Grammar;
 use crate::read::{Group, Inner, Read};
 use qk_ast::{Body, Expr, Form, Stmt};
 use qk_shared::{Builder, List};
-use qk_token::{Edge, Fault, Kind, Token, Tokens, is_word, name_text};
-use crate::temporary::written_text;
+use qk_token::{Edge, Fault, Kind, Token, Tokens, is_word, name_text, written_text};
 use std::alloc::{AllocError, Global};
 
 /// The literal that a word is.

@@ -15,4 +15,3 @@ mod lists;
 mod parts;
 mod read;
 mod tags;
-mod temporary;
