@@ -6,3 +6,4 @@ pub mod PieceLemmas
 pub mod PieceReads
 pub mod Spellings
 pub mod Words
+pub mod Counts

@@ -172,6 +172,16 @@ impl<'s, 't> Tokens<'s, 't> {
         }
     }
 
+    /// The number of the integer that comes next; 0 where none does.
+    pub fn int(&self) -> i64
+        ensures { (digits : Characters) → spec.first self.now.tokens ≡ Some (grammar.Int digits) → result ≡ pos (number_after 10 0 digits) }
+    {
+        match self.rest {
+            [Token::Int(digits), ..] => int_value(digits),
+            _ => 0,
+        }
+    }
+
     /// Passes over the next token.
     pub fn take(&mut self)
         ensures { self.new ≡ spec.advance self.old }
