@@ -144,6 +144,11 @@ impl<
                 });
             }
             Some(Token::Reserved(text)) => word(tokens, text)?,
+            Some(Token::Int(_)) => {
+                let value = tokens.int();
+                tokens.take();
+                Expr::Int(value)
+            }
             Some(Token::Text(_, inside)) => {
                 tokens.take();
                 Expr::Text(written_text(self.alloc, inside)?)

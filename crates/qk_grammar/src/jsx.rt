@@ -1,6 +1,6 @@
 //! JSX: elements, their attributes and their children.
 
-ghost use Rattle.std.specs.Prelude.{◌≡◌, [], Some, codes, chars, IfOk, IfErr};
+ghost use Rattle.std.specs.Prelude.{◌≡◌, false, codes, chars, IfOk, IfErr};
 ghost use Rattle.std.specs.Option.{option_map};
 ghost use Rattle.qk_ast.specs.JsxText as definition;
 ghost use Rattle.qk_reading.specs.Input as input;
