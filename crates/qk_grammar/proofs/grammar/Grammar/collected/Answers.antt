@@ -17,3 +17,9 @@ unfolding collected_from
 returns-in_err-field g c =
     let e = one_more (λ n. collected_from (Sign (codes "}")) (field c.args.self.now.form c.args.self.now.room (nesting c.args.self.now.form c.args.self.now.room)) n c.loop-turn.found c.loop-turn.tokens) _ c.loop-turn._turn c.loop-turn-test.true c.loop-turn.invariant in
     first_of (search rules, grind (arith, common_steps))
+
+pub returns-then-not-eat : goal.returns-then-not-eat
+unfolding collected_from
+returns-then-not-eat g c =
+    let e = one_more (λ n. collected_from (Sign (codes "}")) (field c.args.self.now.form c.args.self.now.room (nesting c.args.self.now.form c.args.self.now.room)) n c.loop-turn.found c.loop-turn.tokens) _ c.loop-turn._turn c.loop-turn-test.true c.loop-turn.invariant in
+    first_of (search rules, grind (arith, common_steps))
