@@ -12,6 +12,7 @@ mod written;
 
 pub use ahead::{Kind, Level, arrow_ahead, known_ahead};
 pub use fault::Fault;
+pub use front::split_first;
 pub use listed::{Lexed, lex};
 pub use token::{Edge, Token, is_word};
 pub use tokens::{Tokens, first_is_sign, is_sign};
