@@ -11,8 +11,8 @@ mod Elements
 mod Statements
 mod Blocks
 mod Complete
-mod Modules
-mod OneModule
+pub mod Modules
+pub mod OneModule
 mod Sound
 mod SoundLists
 mod SoundLevels

@@ -1,0 +1,5 @@
+pub mod Pieces
+pub mod View
+pub mod Reads
+pub mod Seen
+pub mod Lexed
