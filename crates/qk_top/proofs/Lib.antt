@@ -10,3 +10,4 @@ pub mod Commands
 pub mod Scripts
 pub mod Orders
 pub mod Usage
+pub mod Feeds

@@ -4,6 +4,8 @@ pub mod Script
 pub mod Shape
 pub mod Blocks
 pub mod Standing
+pub mod Places
+pub mod Source
 pub mod Answers
 pub mod Stops
 pub mod Sources

@@ -44,5 +44,5 @@ IsOneOf status (s ∷ more) = (status ≡ s) ⊎ IsOneOf status more
 -- When each answer comes: where its cause holds, no status comes but its own, 6 and 7 of the outside, and 8 of memory.
 pub record Comes (words : List Text) (told : Files) (status : ℕ) : Type 0 where
   pub accepted : (m : Module) (events : List Event) → IsAccepted words told m events → IsOneOf status (0 ∷ 6 ∷ 7 ∷ 8 ∷ [])
-  pub application : (kind : Text) → RefusedApplication words told kind → IsOneOf status (2 ∷ 6 ∷ 7 ∷ 8 ∷ [])
+  pub application : (kind what : Text) → RefusedApplication words told kind what → IsOneOf status (2 ∷ 6 ∷ 7 ∷ 8 ∷ [])
   pub script : (kind : Text) → RefusedScript words told kind → IsOneOf status (5 ∷ 6 ∷ 7 ∷ 8 ∷ [])

@@ -4,10 +4,10 @@
 mod blocks;
 mod command;
 mod digits;
+mod place;
 mod play;
 mod replay;
 mod script;
-mod shape;
 mod sources;
 mod stop;
 mod words;

@@ -7,7 +7,7 @@ ghost use Rattle.qk_top.specs.Blocks.{counter_in, number_after, first_text, even
 ghost use lib.Signed.{mag};
 
 use crate::blocks::{push_event, push_first};
-use crate::shape::Counter;
+use qk_first::shape::Counter;
 use qk_script::Event;
 use qk_store::{Sink, SinkFault};
 use std::alloc::Global;

@@ -7,10 +7,10 @@ ghost use Rattle.qk_top.specs.Reads.{MayRead, ReadsInOrder};
 
 use crate::play::play;
 use crate::script::events;
-use crate::shape::read_counter;
 use crate::sources::{read_root, read_script};
 use crate::stop::{ApplicationRefusal, ScriptRefusal, Stop};
 use crate::words::script_word;
+use qk_first::shape::first_counter;
 use qk_script::Event;
 use qk_store::{Sink, SinkFault, Store};
 use std::alloc::Global;
@@ -57,7 +57,7 @@ fn replay_events<S: Store, K: Sink>(
     ensures sink { EndsForFaults Stop.SinkFailed (K.faults out.old) (K.faults out.new) result }
 {
     let root = read_root(alloc, store)?;
-    let Some(counter) = read_counter(&root) else {
+    let Some(counter) = first_counter(&root) else {
         return Err(Stop::Application(ApplicationRefusal::NotBuilt));
     };
     match play(alloc, &counter, events, out) {

@@ -1,18 +1,20 @@
 ghost use Rattle.std.specs.Prelude.{◌≡◌, ◌≤◌, Some, None, IfOk, OnErr, IfErr, IsErrOf, ◌⊎◌, length, map};
 ghost use Rattle.std.specs.Option.{option_map};
-ghost use Rattle.qk_ast.specs.First.{HasFirstForm};
+ghost use Rattle.qk_ast.specs.Derives.{Derives};
+ghost use Rattle.qk_ast.specs.declared.Form.TheVariants.{Source};
 ghost use Rattle.qk_store.specs.Answers.{content, reading, with_answer, IsWithin, bytes as content_bytes};
 ghost use Rattle.qk_script.specs.Answer.{item_of};
 ghost use Rattle.qk_top.specs.Stops.{EndsForFaults};
 ghost use Rattle.qk_top.specs.Script.{SpellsItems};
-ghost use Rattle.qk_top.specs.Sources.{TextComes, ScriptComes, IsRoot};
+ghost use Rattle.qk_top.specs.Sources.{TextComes, ScriptComes, SourceComes, IsRoot, stop_of};
 ghost use Rattle.qk_top.specs.Reads.{IsRead, MayRead};
 ghost use Rattle.qk_top.specs.Answers.{root_name};
 
+use crate::place::place_at;
 use crate::stop::{ApplicationRefusal, ScriptRefusal, Stop};
-use qk_ast::Module;
+use qk_ast::{Form, Module};
 use qk_base::limits;
-use qk_parse::parse_first;
+use qk_parse::{ParseFault, parse_module};
 use qk_script::{ScriptFault, ScriptItem, parse_script};
 use qk_store::{Found, Store, StoreFault};
 use std::alloc::Global;
@@ -60,7 +62,7 @@ fn script_items(alloc: Global, text: &[u8]) -> Result<Vec<ScriptItem>, Stop>
 pub(crate) fn read_root<S: Store>(alloc: Global, store: &mut S) -> Result<Module, Stop>
     ensures found { (told : _) → S.files store.old ≡ Some told → IsRoot told result }
     // Whether or not the store tells its files.
-    ensures derives { IfOk result (λ m. (source : _) × HasFirstForm source m) }
+    ensures derives { IfOk result (λ m. (source : _) × Derives Source source m) }
     ensures reads { MayRead root_name (S.answers store.old) (S.answers store.new) }
     ensures files { S.files store.new ≡ S.files store.old }
     ensures cause { EndsForFaults Stop.StoreFailed (S.faults store.old) (S.faults store.new) result }
@@ -69,24 +71,41 @@ pub(crate) fn read_root<S: Store>(alloc: Global, store: &mut S) -> Result<Module
 {
     match read_file(store, "root.jsx", limits::MODULE_BYTES)? {
         Found::Gone => Err(Stop::Application(ApplicationRefusal::RootMissing)),
-        Found::TooLong => Err(Stop::Application(ApplicationRefusal::NotBuilt)),
-        Found::Bytes(bytes) => first_module(alloc, bytes.as_slice()),
+        Found::TooLong => Err(Stop::Application(ApplicationRefusal::TooLong)),
+        Found::Bytes(bytes) => source_module(alloc, bytes.as_slice()),
     }
 }
 
-/// The module of a source of the first form.
-fn first_module(alloc: Global, source: &[u8]) -> Result<Module, Stop>
-    ensures ok { IfOk result (λ m. HasFirstForm source.now m) }
-    ensures refused { IsErrOf result (Stop.Application ApplicationRefusal.NotBuilt) → (m : _) → ¬ HasFirstForm source.now m }
-    ensures stops { IfErr result (λ stop. (stop ≡ Stop.Memory) ⊎ (stop ≡ Stop.Application ApplicationRefusal.NotBuilt)) }
+/// The module that a source derives.
+fn source_module(alloc: Global, source: &[u8]) -> Result<Module, Stop>
+    requires { length source.now ≤ 1048576 }
+    ensures { SourceComes source.now result }
 {
     let Ok(text) = from_utf8(source) else {
         return Err(Stop::Application(ApplicationRefusal::NotBuilt));
     };
-    match parse_first(alloc, text) {
-        Ok(Some(tree)) => Ok(tree),
-        Ok(None) => Err(Stop::Application(ApplicationRefusal::NotBuilt)),
-        Err(_) => Err(Stop::Memory),
+    match parse_module(alloc, text, Form::Source) {
+        Ok(module) => Ok(module),
+        Err(fault) => Err(refusal(source, fault)),
+    }
+}
+
+/// Why a source that isn't parsed stops the command.
+fn refusal(source: &[u8], fault: ParseFault) -> Stop
+    ensures { result ≡ stop_of source.now fault }
+{
+    match fault {
+        ParseFault::TooLong => Stop::Application(ApplicationRefusal::TooLong),
+        ParseFault::Lexical { at } => {
+            Stop::Application(ApplicationRefusal::Lexical(place_at(source, at)))
+        }
+        ParseFault::Syntax { at } => {
+            Stop::Application(ApplicationRefusal::Syntax(place_at(source, at)))
+        }
+        ParseFault::TooDeep { at } => {
+            Stop::Application(ApplicationRefusal::TooDeep(place_at(source, at)))
+        }
+        ParseFault::Memory => Stop::Memory,
     }
 }
 

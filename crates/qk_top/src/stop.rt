@@ -1,8 +1,11 @@
-ghost use Rattle.std.specs.Prelude.{◌≡◌, IfOk};
+ghost use Rattle.std.specs.Prelude.{◌≡◌, ◌++◌, IfOk};
 ghost use Rattle.std.specs.Cow.{cow_str_bytes};
+ghost use Rattle.qk_meaning.specs.Output.{line};
+ghost use Rattle.qk_top.specs.Places.{place_text};
 ghost use Rattle.qk_top.specs.Stops.{last_line_of};
 
 use crate::digits::push_count;
+use crate::place::Place;
 use std::alloc::{AllocError, Global};
 use std::borrow::CowStr;
 
@@ -23,6 +26,11 @@ pub(crate) enum ScriptRefusal {
 #[derive(Clone, Copy, Debug, PartialEq, Eq)]
 pub(crate) enum ApplicationRefusal {
     RootMissing,
+    TooLong,
+    Lexical(Place),
+    Syntax(Place),
+    TooDeep(Place),
+    /// `root.jsx` is read, and it isn't one of the modules that are played so far.
     NotBuilt,
 }
 
@@ -65,6 +73,16 @@ impl Stop {
         let line = match self {
             Stop::Usage => "usage\n",
             Stop::Application(ApplicationRefusal::RootMissing) => "refused RootMissing root -\n",
+            Stop::Application(ApplicationRefusal::TooLong) => "refused TooLong root 1:1\n",
+            Stop::Application(ApplicationRefusal::Lexical(place)) => {
+                return at_place(alloc, "refused Lexical root ", place);
+            }
+            Stop::Application(ApplicationRefusal::Syntax(place)) => {
+                return at_place(alloc, "refused Syntax root ", place);
+            }
+            Stop::Application(ApplicationRefusal::TooDeep(place)) => {
+                return at_place(alloc, "refused TooDeep root ", place);
+            }
             Stop::Application(ApplicationRefusal::NotBuilt) => "refused NotBuilt root -\n",
             Stop::Script(ScriptRefusal::Missing) => "refused ScriptMissing\n",
             Stop::Script(ScriptRefusal::TooLong) => "refused ScriptTooLong\n",
@@ -86,6 +104,18 @@ fn wrong_line(alloc: Global, number: u64) -> Result<CowStr<'static>, AllocError>
 {
     let mut line = String::from_str(alloc, "refused ScriptLine ")?;
     push_count(number, &mut line)?;
+    line.push_str("\n")?;
+    Ok(CowStr::Owned(line))
+}
+
+/// A last line that ends with a place.
+fn at_place(alloc: Global, front: &str, place: Place) -> Result<CowStr<'static>, AllocError>
+    ensures { IfOk result (λ put. cow_str_bytes put ≡ line (front.now ++ place_text place.line place.column)) }
+{
+    let mut line = String::from_str(alloc, front)?;
+    push_count(place.line, &mut line)?;
+    line.push_str(":")?;
+    push_count(place.column, &mut line)?;
     line.push_str("\n")?;
     Ok(CowStr::Owned(line))
 }
