@@ -1,5 +1,6 @@
 mod Examples
 pub mod Words
+pub mod Found
 pub mod Listener
 pub mod Component
 pub mod Passes
