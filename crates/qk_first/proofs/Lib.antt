@@ -1,6 +1,9 @@
 mod Examples
 pub mod Words
 pub mod Found
+pub mod Alike
+pub mod Digits
+pub mod Composed
 pub mod Listener
 pub mod Component
 pub mod Passes

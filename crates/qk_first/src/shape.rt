@@ -5,6 +5,7 @@ ghost use Rattle.std.specs.Option.{option_copied};
 ghost use Rattle.qk_ast.specs.declared.Expr.TheVariants as e;
 ghost use Rattle.qk_ast.specs.declared.Jsx.{out-Jsx};
 ghost use Rattle.qk_first.specs.Shape.{HasFirstShape, call_of, value_in, arrow_at, block_of, import_of, app_of, signal_of, return_of, listener_of, IsId, IsListener, AreAttributes, AreChildren, IsElement};
+ghost use Rattle.qk_first.specs.Shape as spec;
 ghost use Rattle.qk_first.specs.Kept.{IsCounterOf, name_in, initial_in, statements_in, SignalStands};
 
 use crate::names::{has, is_import, is_short_word, is_signal_name, is_tag};
@@ -45,10 +46,11 @@ pub fn first_counter(tree: &Module) -> Option<Counter<'_>>
 {
     let names = imported(tree)?;
     let (signal, jsx) = parts(statements(tree)?)?;
-    if !is_import(names) || !stands(signal, names) {
-        return None;
+    if fits(names, signal) {
+        element(jsx, signal)
+    } else {
+        None
     }
-    element(jsx, signal)
 }
 
 /// The names of the only import, which is that of the framework.
@@ -194,6 +196,13 @@ fn returned(statement: &Stmt) -> Option<&Jsx>
         Stmt::Return(Some(Expr::Jsx(jsx))) => Some(jsx.get()),
         _ => None,
     }
+}
+
+/// Whether the names may be imported, and a signal, if there is one, may stand under them.
+fn fits(names: &[Text], signal: Option<Signal<'_>>) -> bool
+    ensures { IsTrue result ↔ (IsTrue (spec.is_import names.now) × SignalStands names.now signal.entry) }
+{
+    is_import(names) && stands(signal, names)
 }
 
 /// Whether a signal, if there is one, may stand under an import of the names.
