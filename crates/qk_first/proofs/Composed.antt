@@ -92,11 +92,11 @@ record Written (name : Text) (id : Option Text) (up : Option Bool) (fields : Lis
   same_listener : listener attributes ≡ up
   made : fields ≡ attributes_tree 1 (attributes_of name attributes)
 
-id_made : (id : Text) (a : Field) → IsId id a → a ≡ record { key = encode_utf8_all (codes "id"); value = e.Text (encode_utf8_all (decoded id)) }
+pub id_made : (id : Text) (a : Field) → IsId id a → a ≡ record { key = encode_utf8_all (codes "id"); value = e.Text (encode_utf8_all (decoded id)) }
 unfolding encode_utf8
 id_made id a h = h.1 ∙ ap (λ (t : Text). record { key = codes "id"; value = e.Text t }) (sym (text_is id (word id h.0)))
 
-listener_made : (name : Text) → encode_utf8_all name ≡ name → (up : Bool) (c : Field) → IsListener (Some name) up c
+pub listener_made : (name : Text) → encode_utf8_all name ≡ name → (up : Bool) (c : Field) → IsListener (Some name) up c
     → c ≡ record { key = encode_utf8_all (codes "onClick$"); value = e.Arrow (record { place = 1; params = []; body = b.Value (e.Step up (e.Post (e.Name (encode_utf8_all name)) (l.Prop (encode_utf8_all (codes "value")) ∷ []))) }) }
 unfolding encode_utf8
 listener_made name n up c h = h ∙ ap (λ (t : Text). record { key = codes "onClick$"; value = listener_of t up }) (sym n)

@@ -1,6 +1,7 @@
 -- What an optional value says, and the item of a component.
-use Rattle.std.specs.Prelude.{◌≡◌, Bool, true, List, Option, Some, None, IfSome, codes}
-use Rattle.std.proofs.Common.{ap, sym, ◌∙◌, subst}
+use Rattle.std.specs.Prelude.{◌≡◌, Bool, true, List, Option, Some, None, IsSome, IfSome, IfNone, codes}
+use Rattle.std.proofs.Common.{ap, ◌∙◌}
+use Rattle.std.proofs.lemmas.Bool.{false≢true}
 use Rattle.qk_ast.specs.declared.Item.{Item}
 use Rattle.qk_ast.specs.declared.Expr.{Expr}
 use Rattle.qk_ast.specs.declared.Stmt.{Stmt}
@@ -18,3 +19,17 @@ app_is item x statements exported name made block =
     ∙ ap (λ (n : Text). record { exported = true; name = n; init = item.init }) name
     ∙ ap (λ (i : Expr). record { exported = true; name = codes "App"; init = i }) made
     ∙ ap (λ (b : Expr). record { exported = true; name = codes "App"; init = call_of (codes "component$") b }) block
+
+pub both_some : {A : Type 0} (o : Option A) (P Q R : A → Type 0) → ((a : A) → P a → Q a → R a) → IfSome o P → IfSome o Q → IfSome o R
+both_some (Some a) P Q R step h k = step a h k
+both_some None P Q R step h k = tt
+
+-- what is refuted in any case is where there is no value
+pub refuted : {A : Type 0} (o : Option A) (P : Type 0) → (P → ⊥) → IfNone o (¬ P)
+refuted (Some a) P h = tt
+refuted None P h = h
+
+-- where a fact would give a value and there is none, the fact doesn't hold
+pub unless_some : {A : Type 0} (o : Option A) (P : Type 0) → (P → IsSome o) → IfNone o (¬ P)
+unless_some (Some a) P h = tt
+unless_some None P h = λ p. false≢true (h p)

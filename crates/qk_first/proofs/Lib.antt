@@ -4,6 +4,7 @@ pub mod Found
 pub mod Alike
 pub mod Digits
 pub mod Composed
+pub mod Decomposed
 pub mod Listener
 pub mod Component
 pub mod Passes
