@@ -1,5 +1,10 @@
 mod Examples
 pub mod Words
+pub mod Found
+pub mod Alike
+pub mod Digits
+pub mod Composed
+pub mod Decomposed
 pub mod Listener
 pub mod Component
 pub mod Passes

@@ -1,2 +1,4 @@
 pub mod Counter
+pub mod Kept
 pub mod Laws
+pub mod Shape
