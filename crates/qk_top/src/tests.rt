@@ -149,10 +149,10 @@ fn lines(alloc: Global, line: &[u8], count: usize, end: &[u8]) -> Result<Vec<u8>
     Ok(script)
 }
 
-/// A click whose value fills the script up to so many bytes.
+/// A click whose value fills the script up to so many bytes, and a byte behind them.
 fn long_click(alloc: Global, bytes: usize, last: u8) -> Result<Vec<u8>, AllocError> {
     let mut script = lines(alloc, b"click b ", 1, b"")?;
-    script.resize(bytes - 1, b'x')?;
+    script.resize(bytes, b'x')?;
     script.push(last)?;
     Ok(script)
 }
@@ -161,9 +161,9 @@ fn long_click(alloc: Global, bytes: usize, last: u8) -> Result<Vec<u8>, AllocErr
 fn each_wrong_script_is_refused_as_its_first_cause(rt: HostRuntime) -> Result<(), Fail> {
     let alloc = rt.alloc();
     for (script, kind) in [
-        (long_click(alloc, 1_048_577, b'x')?, "ScriptTooLong"),
-        (long_click(alloc, 1_048_577, 0xff)?, "ScriptTooLong"),
-        (long_click(alloc, 1_048_576, 0xff)?, "ScriptNotUtf8"),
+        (long_click(alloc, 1_048_576, b'x')?, "ScriptTooLong"),
+        (long_click(alloc, 1_048_576, 0xff)?, "ScriptTooLong"),
+        (long_click(alloc, 1_048_575, 0xff)?, "ScriptNotUtf8"),
         (
             lines(alloc, b"click\n", 1, b"click \xc3\x28")?,
             "ScriptNotUtf8",
@@ -192,7 +192,7 @@ fn each_wrong_script_is_refused_as_its_first_cause(rt: HostRuntime) -> Result<()
 #[test]
 fn the_longest_script_and_the_most_items_are_played(rt: HostRuntime) -> Result<(), Fail> {
     let alloc = rt.alloc();
-    let (out, status) = played(alloc, long_click(alloc, 1_048_576, b'x')?.as_slice())?;
+    let (out, status) = played(alloc, long_click(alloc, 1_048_575, b'x')?.as_slice())?;
     let printed =
         b"item 0\nhtml <button id=\"b\">0</button>\nitem 1\nhtml <button id=\"b\">1</button>\n";
     assert_eq!(rt; out.bytes(), printed.as_slice());
