@@ -9,9 +9,10 @@ use Rattle.qk_ast.specs.declared.Form.TheVariants.{Source, Built}
 use Rattle.qk_ast.specs.declared.Module.{Module}
 use Rattle.qk_ast.specs.Tokens.{Token, Tokens}
 use Rattle.qk_ast.specs.Derives.{Derives, Parses, longest, deepest}
+use Rattle.qk_ast.proofs.OneTokenList.{one_token_list}
 use Rattle.qk_reading.specs.Input as input
 use Rattle.qk_reading.specs.Reader.{read_module}
-use Rattle.qk_reading.specs.Laws.{ReadsTexts, FaultsExactly, SyntaxOnlyWhereNone, TooDeepOnlyWhereRaised, FaultsInside}
+use Rattle.qk_reading.specs.Laws.{ParsesWithin, ReadsTexts, FaultsExactly, SyntaxOnlyWhereNone, TooDeepOnlyWhereRaised, FaultsInside}
 use Rattle.qk_lex.specs.declared.LexFault.{LexFault}
 use Rattle.qk_lex.specs.declared.LexFault.TheVariants as lex
 use Rattle.qk_lex.specs.Reading as lexing
@@ -22,7 +23,8 @@ use Rattle.qk_token.specs.View.{tokens_of}
 use Rattle.qk_token.specs.Reads.{fault_of}
 use Rattle.qk_token.specs.Lexed.{Listed, Lexes, place_of}
 use Rattle.qk_token.proofs.Counts.{fewer_tokens, fewer_characters}
-use Rattle.qk_parse.specs.declared.parse.ParseFault.TheVariants.{TooLong}
+use Rattle.qk_parse.specs.declared.parse.ParseFault.{ParseFault}
+use Rattle.qk_parse.specs.declared.parse.ParseFault.TheVariants as parse
 use Rattle.qk_parse.specs.Parsing.{LeftAt, Refused, NoneDerived, of_lex, placed}
 
 scalars : (text : List ℕ) → IsUtf8 text → IsTrue (all_scalars (chars text))
@@ -31,21 +33,12 @@ scalars text u = scalars-chars text u
 one_text : (characters text : List ℕ) → IsUtf8 text → IsTrue (all_scalars characters) → encode_utf8_all characters ≡ text → characters ≡ chars text
 one_text characters text u a e = sym (chars-encodes characters a) ∙ ap (λ b. chars b) e
 
-abbrev Is_refused : Result Module input.Fault → Type 0
-Is_refused (Ok m) = ⊥
-Is_refused (Err f) = Unit {0}
-
 -- ---- what the reader answers to the tokens of a text
 
 pub derived : ReadsTexts → (form : Form) (text : List ℕ) (ts : List Token) (m : Module) → IsUtf8 text → length text ≤ longest form → Tokens (chars text) ts → read_module form (deepest form) ts ≡ Ok m → Derives form text m
 derived texts form text ts m u short read e =
     let k = encodes-chars text u in
     subst (λ b. Derives form b m) k ((texts form (chars text) ts m (scalars text u) (subst (λ b. length b ≤ longest form) (sym k) short) read).1 e)
-
-not_derived : ReadsTexts → (form : Form) (text : List ℕ) (ts : List Token) (fault : input.Fault) → IsUtf8 text → Tokens (chars text) ts → read_module form (deepest form) ts ≡ Err fault → (m : Module) → Derives form text m → ⊥
-not_derived texts form text ts fault u read e m d =
-    let d' = subst (λ b. Derives form b m) (sym (encodes-chars text u)) d in
-    subst (λ r. Is_refused r) (sym e ∙ (texts form (chars text) ts m (scalars text u) d'.short read).0 d') tt
 
 abbrev Is_fault : Fault → Type 0
 Is_fault read.Memory = ⊥
@@ -71,12 +64,6 @@ read_refused exact nowhere deep inside form text found (read.TooDeep left) short
     let there : LeftAt text (place_of left found) = record { found = found; lexes = lexes; left = left; within = ((inside form (deepest form) left found.tokens).1 e).1; place = refl } in
     (short, record { there = there; none = λ m p. (exact form (deepest form) found.tokens).0 (input.TooDeep left) e m p; raised = raised })
 
-pub read_none : ReadsTexts → (form : Form) (text : List ℕ) (found : Listed) (fault : Fault) → IsUtf8 text → Lexes (chars text) found → (fault ≢ read.Memory → read_module form (deepest form) found.tokens ≡ Err (fault_of fault))
-    → NoneDerived form text (placed found fault)
-read_none texts form text found read.Memory u lexes h = tt
-read_none texts form text found (read.Syntax left) u lexes h = λ m d. not_derived texts form text found.tokens (input.Syntax left) u lexes.reads (h (syntax_is left)) m d
-read_none texts form text found (read.TooDeep left) u lexes h = λ m d. not_derived texts form text found.tokens (input.TooDeep left) u lexes.reads (h (deep_is left)) m d
-
 -- a fault stands at one of the tokens, or behind them
 pub syntax_within : FaultsInside → (form : Form) (found : Listed) (fault : Fault) (left : ℕ) → (fault ≢ read.Memory → read_module form (deepest form) found.tokens ≡ Err (fault_of fault)) → fault ≡ read.Syntax left → left ≤ length found.tokens
 syntax_within inside form found fault left h e =
@@ -94,11 +81,6 @@ pub lex_refused : (form : Form) (text : List ℕ) (fault : LexFault) → length 
 lex_refused form text (lex.Lexical at) short h = (short, h.0, h.1)
 lex_refused form text lex.Memory short h = tt
 
-pub lex_none : (form : Form) (text : List ℕ) (fault : LexFault) → IsUtf8 text → lexing.Refused (chars text) fault → NoneDerived form text (of_lex fault)
-lex_none form text lex.Memory u h = tt
-lex_none form text (lex.Lexical at) u h = λ m d.
-    h.1 d.tokens (subst (λ cs. Tokens cs d.tokens) (one_text d.characters text u d.scalars d.encoded) d.read)
-
 pub tokens_count : (ts : List Parser_token) → length (tokens_of ts) ≡ length ts
 tokens_count [] = refl
 tokens_count (t ∷ ts) = ap (λ n. suc n) (tokens_count ts)
@@ -114,3 +96,24 @@ few_tokens form text found u short lexes =
     within : (form : Form) → longest form ≤ 16777216
     within Source = omega arith
     within Built = omega arith
+
+-- ---- a refused text derives no module
+
+pub derived_utf8 : (form : Form) (text : List ℕ) (m : Module) → Derives form text m → IsUtf8 text
+derived_utf8 form text m d = (d.characters, d.scalars, d.encoded)
+
+-- the tokens of a text that derives a module are those that were read of it
+read_alike : (form : Form) (text : List ℕ) (m : Module) (ts : List Token) (d : Derives form text m) → Tokens (chars text) ts → d.tokens ≡ ts
+read_alike form text m ts d read =
+    one_token_list (chars text) d.tokens ts (subst (λ cs. Tokens cs d.tokens) (one_text d.characters text (derived_utf8 form text m d) d.scalars d.encoded) d.read) read
+
+pub refused_none : (form : Form) (text : List ℕ) (fault : ParseFault) → Refused form text fault → NoneDerived form text fault
+refused_none form text parse.TooLong h = λ m d. let short = d.short in omega (arith, h, short)
+refused_none form text (parse.Lexical at) h = λ m d.
+    h.2 d.tokens (subst (λ cs. Tokens cs d.tokens) (one_text d.characters text (derived_utf8 form text m d) d.scalars d.encoded) d.read)
+refused_none form text (parse.Syntax at) h = λ m d.
+    h.1.none m (subst (λ ts. Parses form ts m) (read_alike form text m h.1.there.found.tokens d h.1.there.lexes.reads) d.parse)
+refused_none form text (parse.TooDeep at) h = λ m d.
+    let within : ParsesWithin form (deepest form) d.tokens m = record { parse = d.parse; flat = d.flat } in
+    h.1.none m (subst (λ ts. ParsesWithin form (deepest form) ts m) (read_alike form text m h.1.there.found.tokens d h.1.there.lexes.reads) within)
+refused_none form text parse.Memory h = tt

@@ -1,7 +1,7 @@
+pub mod Refusals
 pub mod Ends
 pub mod Comings
 pub mod Readings
-pub mod Shapes
 pub mod Outputs
 pub mod Plays
 pub mod Shown

@@ -6,7 +6,7 @@ use Rattle.std.specs.Prelude.{Result, Ok, Err, IfOk, IfErr, IsErrOf}
 use Rattle.qk_ast.specs.declared.Module.{Module}
 use Rattle.qk_store.specs.Files.{Files}
 use Rattle.qk_top.specs.declared.stop.ScriptRefusal.TheVariants as scripts
-use Rattle.qk_top.specs.declared.stop.ApplicationRefusal.TheVariants.{NotBuilt}
+use Rattle.qk_top.specs.declared.stop.ApplicationRefusal.TheVariants as application
 use Rattle.qk_top.specs.declared.stop.Stop.{Stop}
 use Rattle.qk_top.specs.declared.stop.Stop.TheVariants.{Usage, Script, Application, StoreFailed, SinkFailed, Memory}
 use Rattle.qk_top.specs.Answers.{root_name}
@@ -19,8 +19,12 @@ use Rattle.qk_script.specs.declared.fault.ScriptFault.TheVariants as fault
 use Rattle.qk_script.specs.Answer.{FirstWrong, HasTooMany, IsFaultOf}
 use Rattle.qk_top.specs.Stops.{script_kind}
 use Rattle.qk_top.specs.Script.{IsReadable, RefusedText, wrong_line, too_many}
-use Rattle.qk_top.specs.Sources.{TextComes, ScriptComes, IsRoot}
-use Rattle.qk_ast.specs.First.{HasFirstForm}
+use Rattle.qk_top.specs.Sources.{TextComes, ScriptComes, SourceComes, IsRoot, stop_of}
+use Rattle.qk_ast.specs.declared.Form.TheVariants.{Source}
+use Rattle.qk_parse.specs.declared.parse.ParseFault.{ParseFault}
+use Rattle.qk_parse.specs.declared.parse.ParseFault.TheVariants as parse
+use Rattle.qk_parse.specs.Parsing.{Refused}
+use Rattle.qk_top.specs.Source.{too_long as too_long_source, lexical, syntax, too_deep}
 use Rattle.qk_meaning.specs.Value.{Text}
 use Rattle.qk_store.specs.Answers.{gone, too_long, bytes, reading}
 
@@ -57,19 +61,31 @@ pub bytes_is : (file : Option (List ℕ)) (most : ℕ) (read : List ℕ) → byt
 bytes_is None most read h = absurd (none_bytes read h)
 bytes_is (Some file) most read h = ap Some (sym (chosen_bytes (nat_lt most (length file)) file read h))
 
--- a text of the first form is short
-pub long_refused : (text : Text) (m : Module) → 1048576 < length text → HasFirstForm text m → ⊥
-long_refused text m long h = omega (arith, h.short)
-
 pub not_some : {A : Type 0} (a : A) → None ≡ Some a → ⊥
 not_some a h = cc
 
 -- what came of a source that stands
-pub root_came : (told : Files) (source : Text) (r : Result Module Stop) → told root_name ≡ Some source → IfOk r (λ m. HasFirstForm source m)
-    → (IsErrOf r (Application NotBuilt) → (m : Module) → ¬ HasFirstForm source m) → IfErr r (λ stop. (stop ≡ Memory) ⊎ (stop ≡ Application NotBuilt)) → IsRoot told r
-root_came told source (Ok m) stands ok refused stops = (source, stands, ok)
-root_came told source (Err stop) stands ok refused (inl e) = subst (λ s. IsRoot told (Err s)) (sym e) tt
-root_came told source (Err stop) stands ok refused (inr e) = subst (λ s. IsRoot told (Err s)) (sym e) (source, stands, refused (ap Err e))
+pub root_came : (told : Files) (source : Text) (r : Result Module Stop) → told root_name ≡ Some source → SourceComes source r → IsRoot told r
+root_came told source (Ok m) stands h = (source, stands, h)
+root_came told source (Err Usage) stands h = absurd h
+root_came told source (Err (Script kind)) stands h = absurd h
+root_came told source (Err (Application application.RootMissing)) stands h = absurd h
+root_came told source (Err (Application application.TooLong)) stands h = (source, stands, h)
+root_came told source (Err (Application (application.Lexical place))) stands h = (source, stands, h)
+root_came told source (Err (Application (application.Syntax place))) stands h = (source, stands, h)
+root_came told source (Err (Application (application.TooDeep place))) stands h = (source, stands, h)
+root_came told source (Err (Application application.NotBuilt)) stands h = (source, stands, h)
+root_came told source (Err StoreFailed) stands h = absurd h
+root_came told source (Err SinkFailed) stands h = absurd h
+root_came told source (Err Memory) stands h = tt
+
+-- what comes of a source that isn't parsed
+pub source_refused : (source : Text) (fault : ParseFault) → length source ≤ 1048576 → IsUtf8 source → Refused Source source fault → SourceComes source (Err (stop_of source fault))
+source_refused source parse.TooLong short utf8 h = too_long_source h
+source_refused source (parse.Lexical at) short utf8 h = lexical utf8 h
+source_refused source (parse.Syntax at) short utf8 h = syntax utf8 h
+source_refused source (parse.TooDeep at) short utf8 h = too_deep utf8 h
+source_refused source parse.Memory short utf8 h = tt
 
 -- what came of a script that stands
 pub script_came : (told : Files) (name text : Text) (r : Result (Vec ScriptItem Global) Stop) → told name ≡ Some text → TextComes text r → ScriptComes told name r

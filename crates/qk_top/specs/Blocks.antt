@@ -6,20 +6,7 @@ use Rattle.qk_meaning.specs.Value.{Text}
 use Rattle.qk_meaning.specs.Item.{Event}
 use Rattle.qk_meaning.specs.Output.{line}
 use Rattle.qk_first.specs.Counter.{Counter, attributes_html, hears, moved}
-use Rattle.qk_top.specs.declared.shape.Counter.{Counter as Kept}
 use Rattle.qk_top.specs.Decimals.{count_text, number_text}
-
-abbrev pub id_among : Option Text → List First_attribute
-id_among None = []
-id_among (Some id) = Id id ∷ []
-
-abbrev pub listener_among : Option Bool → List First_attribute
-listener_among None = []
-listener_among (Some up) = On_click up ∷ []
-
--- the counter that is kept
-abbrev pub counter_in : Kept → Counter
-counter_in kept = record { tag = kept.tag.now; attributes = id_among (option_copied kept.id) ++ listener_among kept.counts_up; initial = kept.initial; shows = kept.shows }
 
 abbrev pub item_text : ℕ → Text
 item_text k = line (codes "item " ++ count_text k)

@@ -1,9 +1,7 @@
 pub mod Words
 pub mod Decimals
 pub mod Script
-pub mod Shape
 pub mod Blocks
-pub mod Standing
 pub mod Places
 pub mod Source
 pub mod Answers

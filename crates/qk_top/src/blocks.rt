@@ -1,11 +1,12 @@
 ghost use Rattle.std.specs.Prelude.{◌≡◌, ◌++◌, ◌<◌, ◌^◌, IfOk, OnOk, string_bytes};
 ghost use Rattle.qk_first.specs.Counter.{hears};
 ghost use Rattle.qk_script.specs.Answer.{event_of};
-ghost use Rattle.qk_top.specs.Blocks.{counter_in, moves, number_after, moved_text, event_text, first_text, item_text, html_text, opening_text, closing_text, id_text, shown_text};
+ghost use Rattle.qk_first.specs.Kept.{counter_in};
+ghost use Rattle.qk_top.specs.Blocks.{moves, number_after, moved_text, event_text, first_text, item_text, html_text, opening_text, closing_text, id_text, shown_text};
 ghost use lib.Signed.{mag};
 
 use crate::digits::{push_count, push_number};
-use crate::shape::Counter;
+use qk_first::shape::Counter;
 use qk_script::Event;
 use std::alloc::AllocError;
 

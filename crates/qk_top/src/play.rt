@@ -3,7 +3,8 @@ ghost use Rattle.std.specs.Option.{option_map};
 ghost use Rattle.qk_store.specs.Causes.{HasCause};
 ghost use Rattle.qk_store.specs.Pieces.{with_piece, AppendsFront};
 ghost use Rattle.qk_script.specs.Answer.{event_of};
-ghost use Rattle.qk_top.specs.Blocks.{counter_in, number_after, first_text, event_text, played_text};
+ghost use Rattle.qk_first.specs.Kept.{counter_in};
+ghost use Rattle.qk_top.specs.Blocks.{number_after, first_text, event_text, played_text};
 ghost use lib.Signed.{mag};
 
 use crate::blocks::{push_event, push_first};

@@ -3,7 +3,7 @@ use mathlib.Core.Path.{subst}
 use Rattle.qk_ast.specs.Derives as definition
 use Rattle.qk_reading.specs.Reader as reader
 use Rattle.qk_token.specs.View.{tokens_of}
-use Rattle.qk_parse.proofs.Parses.{derived, read_refused, read_none, syntax_within, deep_within, few_tokens, tokens_count}
+use Rattle.qk_parse.proofs.Parses.{derived, read_refused, refused_none, syntax_within, deep_within, few_tokens, tokens_count}
 use Rattle.qk_parse.proofs.parse.parse_lexed.Goals as goal
 
 pub read_module-requires-clause-few : goal.read_module-requires-clause-few
@@ -34,5 +34,5 @@ returns-in-Err-clause-refused c =
 
 pub returns-in-Err-clause-none : goal.returns-in-Err-clause-none
 returns-in-Err-clause-none c =
-    rw c.placed.ensures (read_none c.laws.ensures.texts c.args.form c.args.text.now c.args.lexed.now c.in-Err.fault c.utf8.text c.requires.lexes
-        (λ k. ap (λ n. reader.read_module c.args.form n c.args.lexed.now.tokens) (sym c.deepest.ensures) ∙ (ap (λ ts. reader.read_module c.args.form c.deepest.result ts) (sym c.tokens.ensures.tokens) ∙ c.in-Err.ensures.refused k)))
+    rw c.placed.ensures (refused_none _ _ _ (read_refused c.laws.ensures.exact c.laws.ensures.nowhere c.laws.ensures.deep c.laws.ensures.inside c.args.form c.args.text.now c.args.lexed.now c.in-Err.fault c.requires.short c.requires.lexes
+        (λ k. ap (λ n. reader.read_module c.args.form n c.args.lexed.now.tokens) (sym c.deepest.ensures) ∙ (ap (λ ts. reader.read_module c.args.form c.deepest.result ts) (sym c.tokens.ensures.tokens) ∙ c.in-Err.ensures.refused k))))

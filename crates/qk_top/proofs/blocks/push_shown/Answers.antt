@@ -1,5 +1,5 @@
 use Rattle.std.proofs.Common.{rules}
-use Rattle.qk_top.specs.Blocks.{counter_in}
+use Rattle.qk_first.specs.Kept.{counter_in}
 use Rattle.qk_top.proofs.Shown.{shown_there, not_shown}
 use Rattle.qk_top.proofs.blocks.push_shown.Goals as goal
 

@@ -1,6 +1,6 @@
 use Rattle.std.proofs.Common.{map, ◌≡◌}
 use Rattle.qk_script.specs.Answer.{event_of}
-use Rattle.qk_top.specs.Blocks.{counter_in}
+use Rattle.qk_first.specs.Kept.{counter_in}
 use Rattle.qk_top.proofs.Plays.{IsPlayed}
 use Rattle.qk_top.proofs.play.play.Given as goal
 
