@@ -1,13 +1,1 @@
-pub mod Answered
-pub mod Complete
-pub mod Names
-pub mod One
-pub mod Pieces
-pub mod Plain
-pub mod Slices
-pub mod Sound
-pub mod Standing
-pub mod Steps
-pub mod Trees
-pub mod Turns
 pub mod Parses

@@ -100,7 +100,7 @@ few_tokens form text found u short lexes =
 -- ---- a refused text derives no module
 
 pub derived_utf8 : (form : Form) (text : List ℕ) (m : Module) → Derives form text m → IsUtf8 text
-derived_utf8 form text m d = (d.characters, d.scalars, d.encoded)
+derived_utf8 form text m d = (d.characters, (d.scalars, d.encoded))
 
 -- the tokens of a text that derives a module are those that were read of it
 read_alike : (form : Form) (text : List ℕ) (m : Module) (ts : List Token) (d : Derives form text m) → Tokens (chars text) ts → d.tokens ≡ ts

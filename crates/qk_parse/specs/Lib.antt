@@ -1,4 +1,1 @@
-pub mod Answer
-pub mod Input
-pub mod Reader
 pub mod Parsing

@@ -34,18 +34,17 @@ column_same column b bs h = elim (either (has_feed bs)) [
   | inr k ↦ rw (h, k) (omega arith)
 ]
 
+or_left : (a b : Bool) → (a || b) ≡ false → a ≡ false
+or_left false b h = refl
+or_left true b h = cc
+
+or_right : (a b : Bool) → (a || b) ≡ false → b ≡ false
+or_right false b h = h
+or_right true b h = cc
+
 whole_column : (text : Text) → has_feed text ≡ false → after_feeds text ≡ text
 whole_column [] h = refl
-whole_column (b ∷ bs) h = elim (either (b == 10)) [
-  | inl k ↦ absurd (no (rw k h))
-  | inr k ↦ elim (either (has_feed bs)) [
-    | inl f ↦ absurd (no (rw (k, f) h))
-    | inr f ↦ rw (k, f) refl
-  ]
-]
-  where
-    no : true ≡ false → ⊥
-    no e = cc
+whole_column (b ∷ bs) h = rw (or_right (b == 10) (has_feed bs) h, or_left (b == 10) (has_feed bs) h) refl
 
 -- at the text's beginning
 pub column_start : (text : Text) → column_with 1 text ≡ suc (length (after_feeds text))

@@ -1,4 +1,4 @@
-ghost use Rattle.std.specs.Prelude.{◌≡◌, suc, length};
+ghost use Rattle.std.specs.Prelude.{◌≡◌, suc, length, take};
 ghost use Rattle.qk_top.specs.Places as spec;
 
 /// A place in a text: a line, and a column of it in bytes, each counted from 1.
@@ -13,11 +13,18 @@ pub(crate) fn place_at(text: &[u8], at: usize) -> Place
     ensures line { result.line ≡ spec.line_at text.now at }
     ensures column { result.column ≡ spec.column_at text.now at }
 {
-    let front = &text[..at.min(text.len())];
+    let front = before(text, at);
     Place {
         line: line_after(front),
         column: column_after(front),
     }
+}
+
+/// What stands before a byte of the text.
+fn before(text: &[u8], at: usize) -> &[u8]
+    ensures { result.now ≡ take at text.now }
+{
+    &text[..at.min(text.len())]
 }
 
 /// The line of what follows.

@@ -12,3 +12,8 @@ returns-in-Err-Failed-clause-comes g c told e = (_, root_plays told _ _ _ (c.in_
 
 pub returns-clause-comes : goal.returns-clause-comes
 returns-clause-comes g c told e = inr (_, root_plays told _ _ _ (c.in_ok-root.ensures.found told e) c.in-Some.ensures.kept (rw length-map c.requires), c.play.ensures.front)
+
+pub returns-in_default-clause-comes : goal.returns-in_default-clause-comes
+returns-in_default-clause-comes g c told e =
+    let root = c.in_ok-root.ensures.found told e in
+    ((root.0, root.1, other_shape root.2 c.in_default.ensures.none), refl)
