@@ -13,12 +13,15 @@ scope_names room = do
   more ← many comma_name
   pure (bytes a ∷ more)
 
+unfoldable pub scope_word : Reader (Unit {0})
+scope_word = expect (Given (codes "useLexicalScope"))
+
 -- ] = useLexicalScope();
 unfoldable pub scope_end : Reader (Unit {0})
 scope_end = do
   expect (Sign (codes "]"))
   expect (Sign (codes "="))
-  expect (Given (codes "useLexicalScope"))
+  scope_word
   expect (Sign (codes "("))
   expect (Sign (codes ")"))
   expect (Sign (codes ";"))

@@ -4,7 +4,7 @@ ghost use Rattle.std.specs.Prelude.{◌≡◌, IfOk};
 ghost use Rattle.qk_reading.specs.Input as input;
 ghost use Rattle.qk_reading.specs.Parts as spec;
 ghost use Rattle.qk_token.specs.Reads.{Reads};
-ghost use Rattle.qk_module.specs.Scope.{scope_names, scope_end};
+ghost use Rattle.qk_module.specs.Scope.{scope_names, scope_word, scope_end};
 
 use qk_ast::{Expr, Link, Pattern, Stmt};
 use qk_grammar::{enter, name};
@@ -60,6 +60,14 @@ fn scope_names(alloc: Global, tokens: &mut Tokens<'_, '_>, room: usize) -> Resul
     more_names(alloc, tokens, names)
 }
 
+/// The name of what a scope calls.
+#[tactic(auto, unfolding(crate::specs::Scope::scope_word))]
+fn scope_word(tokens: &mut Tokens<'_, '_>) -> Result<(), Fault>
+    ensures { Reads (scope_word tokens.old) result tokens.new }
+{
+    tokens.expect_name(b"useLexicalScope")
+}
+
 /// What follows a scope's names.
 #[tactic(auto, unfolding(crate::specs::Scope::scope_end))]
 fn scope_end(tokens: &mut Tokens<'_, '_>) -> Result<(), Fault>
@@ -67,7 +75,7 @@ fn scope_end(tokens: &mut Tokens<'_, '_>) -> Result<(), Fault>
 {
     tokens.expect(b"]")?;
     tokens.expect(b"=")?;
-    tokens.expect_name(b"useLexicalScope")?;
+    scope_word(tokens)?;
     tokens.expect(b"(")?;
     tokens.expect(b")")?;
     tokens.expect(b";")
