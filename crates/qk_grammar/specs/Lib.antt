@@ -1,2 +1,4 @@
 pub mod Seen
 pub mod Nests
+pub mod FormsSeen
+pub mod Levels

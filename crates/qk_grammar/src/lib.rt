@@ -3,6 +3,14 @@
 //! What nests one level deeper is read by three function values of `Grammar`, so that each rule is proved by itself.
 #![tactic(auto)]
 
+mod atoms;
+mod calls;
+mod fields;
 mod grammar;
+mod holes;
+mod links;
+mod levels;
 mod lists;
+mod parts;
 mod read;
+mod temporary;

@@ -39,14 +39,14 @@ impl<
     G: Fn(Global, &mut Tokens<'_, '_>, Form, usize, Group) -> Result<List<Stmt>, Fault>,
 > Grammar<V, B, G>
 {
-    /// Expressions between commas up to that sign, which stays.
-    #[tactic(auto, unfolding(qk_reading::specs::Input::separated, qk_reading::specs::Input::separated_from))]
-    fn separated(&self, tokens: &mut Tokens<'_, '_>, closing: &[u8]) -> Result<Args, Fault>
+    /// Expressions between commas up to that sign, which stays, after those found.
+    #[tactic(auto, unfolding(qk_reading::specs::Input::separated_from))]
+    pub fn separated_from(&self, tokens: &mut Tokens<'_, '_>, closing: &[u8], found: Builder<Expr>) -> Result<Args, Fault>
         requires values { Values self.now.form self.now.room (V.pre self.now.value) (V.post self.now.value) }
         requires ascii { is_ascii closing.now ≡ true }
-        ensures { ReadsAs (λ a. (a.items, a.comma)) (input.separated (input.Sign closing.now) (forms.nested self.now.form self.now.room (nesting self.now.form self.now.room)) tokens.old) result tokens.new }
+        ensures { ReadsAs (λ a. (a.items, a.comma)) (input.separated_from (input.Sign closing.now) (forms.nested self.now.form self.now.room (nesting self.now.form self.now.room)) (input.left tokens.old) found tokens.old) result tokens.new }
     {
-        let mut items = Builder::new(self.alloc);
+        let mut items = found;
         for _turn in 0..tokens.left() {
             if tokens.sees(closing) {
                 return Ok(Args { items, comma: true });
@@ -60,6 +60,16 @@ impl<
             }
         }
         Err(tokens.refuse())
+    }
+
+    /// Expressions between commas up to that sign, which stays.
+    #[tactic(auto, unfolding(qk_reading::specs::Input::separated))]
+    fn separated(&self, tokens: &mut Tokens<'_, '_>, closing: &[u8]) -> Result<Args, Fault>
+        requires values { Values self.now.form self.now.room (V.pre self.now.value) (V.post self.now.value) }
+        requires ascii { is_ascii closing.now ≡ true }
+        ensures { ReadsAs (λ a. (a.items, a.comma)) (input.separated (input.Sign closing.now) (forms.nested self.now.form self.now.room (nesting self.now.form self.now.room)) tokens.old) result tokens.new }
+    {
+        self.separated_from(tokens, closing, Builder::new(self.alloc))
     }
 
     #[tactic(auto, unfolding(qk_reading::specs::Forms::args))]

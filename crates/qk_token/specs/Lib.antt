@@ -2,3 +2,4 @@ pub mod Pieces
 pub mod View
 pub mod Reads
 pub mod Seen
+pub mod Lexed

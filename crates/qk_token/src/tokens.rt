@@ -2,7 +2,7 @@
 
 ghost use Rattle.std.specs.Prelude.{◌≡◌, ◌≤◌, ◌<◌, ◌+◌, ◌^◌, true, pos, chars, length, Some};
 ghost use Rattle.std.specs.Option.{option_map};
-ghost use Rattle.qk_ast.specs.Characters.{Characters, number_after};
+ghost use Rattle.qk_ast.specs.Characters.{Characters, is_digit, digit_value, number_after};
 ghost use Rattle.qk_ast.specs.Tokens as grammar;
 ghost use Rattle.qk_ast.specs.Tokens.{is_int};
 ghost use Rattle.qk_reading.specs.Input as spec;
@@ -10,6 +10,7 @@ ghost use Rattle.qk_token.specs.Reads.{Reads, ReadsAs};
 ghost use Rattle.qk_token.specs.View.{is_ascii, token_of, tokens_of, AllFit};
 
 use crate::fault::Fault;
+use crate::front::split_first;
 use crate::token::{Token, is_word};
 use std::marker::Model;
 
@@ -76,6 +77,29 @@ pub fn first_is_sign(sign: &[u8], tokens: &[Token<'_>]) -> bool
     }
 }
 
+/// The value of a digit.
+fn digit_value(c: char) -> u64
+    requires { is_digit c ≡ true }
+    ensures value { result ≡ digit_value c }
+    ensures small { result < 10 }
+{
+    c as u64 - 48
+}
+
+/// The number that the digits write.
+fn int_value(digits: &str) -> i64
+    requires { is_int (chars digits.now) ≡ true }
+    ensures { result ≡ pos (number_after 10 0 (chars digits.now)) }
+{
+    let mut rest = digits;
+    let mut value: u64 = 0;
+    while let Some((c, more)) = split_first(rest) {
+        value = value * 10 + digit_value(c);
+        rest = more;
+    }
+    value as i64
+}
+
 fn rest<'s, 't>(tokens: &'s [Token<'t>]) -> &'s [Token<'t>]
     ensures rest { tokens_of result.now ≡ spec.rest (tokens_of tokens.now) }
     ensures shorter { length result.now ≤ length tokens.now }
@@ -97,6 +121,16 @@ impl<'s, 't> Tokens<'s, 't> {
         Tokens {
             rest: tokens,
             arrows: 0,
+        }
+    }
+
+    /// A cursor of its own over the same tokens.
+    pub fn fork(&self) -> Tokens<'s, 't>
+        ensures { result ≡ self.now }
+    {
+        Tokens {
+            rest: self.rest,
+            arrows: self.arrows,
         }
     }
 
@@ -135,6 +169,16 @@ impl<'s, 't> Tokens<'s, 't> {
         match self.rest {
             [token, ..] => Some(*token),
             [] => None,
+        }
+    }
+
+    /// The number of the integer that comes next; 0 where none does.
+    pub fn int(&self) -> i64
+        ensures { (digits : Characters) → spec.first self.now.tokens ≡ Some (grammar.Int digits) → result ≡ pos (number_after 10 0 digits) }
+    {
+        match self.rest {
+            [Token::Int(digits), ..] => int_value(digits),
+            _ => 0,
         }
     }
 

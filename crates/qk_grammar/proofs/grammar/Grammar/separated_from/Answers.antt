@@ -4,7 +4,7 @@ use Rattle.qk_reading.specs.Input.{Sign, separated_from}
 use Rattle.qk_reading.specs.Forms.{nested}
 use Rattle.qk_reading.specs.Reader.{nesting}
 use Rattle.qk_grammar.proofs.Turns.{one_more}
-use Rattle.qk_grammar.proofs.grammar.Grammar.separated.Goals as goal
+use Rattle.qk_grammar.proofs.grammar.Grammar.separated_from.Goals as goal
 
 pub loop-turn-preserved : goal.loop-turn-preserved
 unfolding separated_from

@@ -1,0 +1,24 @@
+use Rattle.std.proofs.Common.{rules, arith}
+use Rattle.std.proofs.lemmas.Grind.{common_steps}
+use Rattle.qk_reading.specs.Forms.{holes_from}
+use Rattle.qk_reading.specs.Reader.{nesting}
+use Rattle.qk_grammar.proofs.Turns.{one_more}
+use Rattle.qk_grammar.proofs.grammar.Grammar.filled.Goals as goal
+
+pub loop-turn-preserved : goal.loop-turn-preserved
+unfolding holes_from
+loop-turn-preserved g c =
+    let e = one_more (λ n. holes_from c.args.self.now.form c.args.self.now.room (nesting c.args.self.now.form c.args.self.now.room) n c.loop-turn.parts c.loop-turn.values c.loop-turn.tokens) _ c.loop-turn._turn c.loop-turn-test.true c.loop-turn.invariant in
+    first_of (search rules, grind (arith, common_steps))
+
+pub returns-in_err-nested : goal.returns-in_err-nested
+unfolding holes_from
+returns-in_err-nested g c =
+    let e = one_more (λ n. holes_from c.args.self.now.form c.args.self.now.room (nesting c.args.self.now.form c.args.self.now.room) n c.loop-turn.parts c.loop-turn.values c.loop-turn.tokens) _ c.loop-turn._turn c.loop-turn-test.true c.loop-turn.invariant in
+    first_of (search rules, grind (arith, common_steps))
+
+pub returns-in_err-part : goal.returns-in_err-part
+unfolding holes_from
+returns-in_err-part g c =
+    let e = one_more (λ n. holes_from c.args.self.now.form c.args.self.now.room (nesting c.args.self.now.form c.args.self.now.room) n c.loop-turn.parts c.loop-turn.values c.loop-turn.tokens) _ c.loop-turn._turn c.loop-turn-test.true c.loop-turn.invariant in
+    first_of (search rules, grind (arith, common_steps))

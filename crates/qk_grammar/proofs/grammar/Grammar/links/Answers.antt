@@ -1,0 +1,13 @@
+use Rattle.std.proofs.Common.{rules, arith}
+use Rattle.std.proofs.lemmas.Grind.{common_steps}
+use Rattle.qk_reading.specs.Forms.{links_from}
+use Rattle.qk_reading.specs.Reader.{nesting}
+use Rattle.qk_token.specs.Seen.{kind_of}
+use Rattle.qk_grammar.proofs.Turns.{one_more}
+use Rattle.qk_grammar.proofs.grammar.Grammar.links.Goals as goal
+
+pub loop-turn-preserved : goal.loop-turn-preserved
+unfolding links_from
+loop-turn-preserved g c =
+    let e = one_more (λ n. links_from c.args.self.now.form c.args.self.now.room (nesting c.args.self.now.form c.args.self.now.room) n (kind_of c.loop-turn.kind) c.loop-turn.links c.loop-turn.tokens) _ c.loop-turn._turn c.loop-turn-test.true c.loop-turn.invariant in
+    first_of (search rules, grind (arith, common_steps))
