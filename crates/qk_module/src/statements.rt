@@ -23,7 +23,7 @@ impl<
 {
     /// What `if`, `else`, `while` and `for` hold.
     #[tactic(auto, unfolding(qk_reading::specs::Statements::held))]
-    fn held(&self, tokens: &mut Tokens<'_, '_>, looped: bool) -> Result<List<Stmt>, Fault>
+    pub fn held(&self, tokens: &mut Tokens<'_, '_>, looped: bool) -> Result<List<Stmt>, Fault>
         requires { Groups self.now.forms.form self.now.forms.room (G.pre self.now.forms.group) (G.post self.now.forms.group) }
         ensures { Reads (spec.held self.now.forms.form self.now.forms.room (nesting self.now.forms.form self.now.forms.room) looped tokens.old) result tokens.new }
     {
