@@ -1,5 +1,5 @@
 -- What the reader calls the parts of calls, links and templates that the code reads.
-use Rattle.std.specs.Prelude.{ℕ, Bool, List, [], ◌∷◌, ◌++◌, Option, codes}
+use Rattle.std.specs.Prelude.{ℕ, Bool, List, [], ◌∷◌, ◌++◌, Option, Some, None, codes}
 use Rattle.std.specs.Option.{option_map}
 use Rattle.qk_ast.specs.declared.Expr.{Expr}
 use Rattle.qk_ast.specs.declared.Expr.TheVariants as e
@@ -7,6 +7,9 @@ use Rattle.qk_ast.specs.declared.Link.{Link}
 use Rattle.qk_ast.specs.declared.Link.TheVariants as l
 use Rattle.qk_ast.specs.declared.Known.{Known}
 use Rattle.qk_ast.specs.declared.Known.TheVariants as known
+use Rattle.qk_ast.specs.declared.Field.{Field}
+use Rattle.qk_ast.specs.declared.Tag.{Tag}
+use Rattle.qk_ast.specs.declared.Jsx.{roll-Jsx}
 use Rattle.qk_ast.specs.Tree.{bytes}
 use Rattle.qk_reading.specs.Input as input
 use Rattle.qk_token.specs.Seen.{kind_of}
@@ -15,6 +18,8 @@ use Rattle.qk_grammar.specs.declared.links.LinkRead.{LinkRead}
 use Rattle.qk_grammar.specs.declared.links.LinksRead.{LinksRead}
 use Rattle.qk_grammar.specs.declared.holes.TemplatePart.{TemplatePart}
 use Rattle.qk_grammar.specs.declared.holes.Filled.{Filled}
+use Rattle.qk_grammar.specs.declared.jsx.Child.{Child}
+use Rattle.qk_grammar.specs.declared.jsx.Child.TheVariants as child
 
 abbrev pub args_of : Args → List Expr × Bool
 args_of a = (a.items, a.comma)
@@ -47,3 +52,10 @@ method_of known.Trunc = l.Prop (bytes (codes "trunc")) ∷ []
 -- a call by that name that is one as any other
 abbrev pub named_call : Known → List Expr → input.Head
 named_call k args = input.headed (object_of k) input.Called (method_of k ++ l.Call args ∷ [])
+
+abbrev pub child_of : Child → Option Expr
+child_of child.Nothing = None
+child_of (child.Value x) = Some x
+
+abbrev pub element_of : Tag → List Field → List Expr → Expr
+element_of tag attributes children = e.Jsx (roll-Jsx (record { tag = tag; attrs = attributes; children = children }))

@@ -16,8 +16,7 @@ use crate::grammar::Grammar;
 use crate::read::{Group, Inner, Read};
 use qk_ast::{Body, Expr, Form, Stmt};
 use qk_shared::{Builder, List};
-use qk_token::{Edge, Fault, Kind, Token, Tokens, is_word, name_text};
-use crate::temporary::written_text;
+use qk_token::{Edge, Fault, Kind, Token, Tokens, is_word, name_text, written_text};
 use std::alloc::{AllocError, Global};
 
 /// The literal that a word is.
@@ -145,6 +144,11 @@ impl<
                 });
             }
             Some(Token::Reserved(text)) => word(tokens, text)?,
+            Some(Token::Int(_)) => {
+                let value = tokens.int();
+                tokens.take();
+                Expr::Int(value)
+            }
             Some(Token::Text(_, inside)) => {
                 tokens.take();
                 Expr::Text(written_text(self.alloc, inside)?)

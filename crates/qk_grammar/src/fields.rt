@@ -14,10 +14,9 @@ ghost use Rattle.qk_grammar.specs.Seen.{items_of};
 use crate::grammar::Grammar;
 use crate::lists::enter;
 use crate::read::{Group, Inner, Read};
-use crate::temporary::written_text;
 use qk_ast::{Body, Expr, Field, Form, Stmt};
 use qk_shared::{Builder, List, Text};
-use qk_token::{Fault, Token, Tokens, name_text};
+use qk_token::{Fault, Token, Tokens, name_text, written_text};
 use std::alloc::Global;
 
 /// Whether both keys have the same bytes.

@@ -11,10 +11,9 @@ ghost use Rattle.qk_grammar.specs.FormsSeen.{part_of, filled_of};
 
 use crate::grammar::Grammar;
 use crate::read::{Group, Inner, Read};
-use crate::temporary::written_text;
 use qk_ast::{Body, Expr, Form, Stmt};
 use qk_shared::{Builder, List, Text};
-use qk_token::{Edge, Fault, Token, Tokens};
+use qk_token::{Edge, Fault, Token, Tokens, written_text};
 use std::alloc::Global;
 
 /// A template's part after a hole, and whether another hole follows it.

@@ -234,8 +234,8 @@ impl<
         match which {
             Inner::Whole => self.whole(tokens),
             Inner::Tight => self.unary(tokens),
-            Inner::Tagged => Err(Fault::Memory),
-            Inner::Untagged => Err(Fault::Memory),
+            Inner::Tagged => Ok(atomic(self.tagged(tokens)?)),
+            Inner::Untagged => Ok(atomic(self.untagged(tokens)?)),
         }
     }
 }

@@ -6,7 +6,7 @@ ghost use Rattle.qk_lex.specs.Scan.{after_char};
 ghost use Rattle.qk_token.specs.Lexed.{first_of, last_of, without_last};
 
 /// The first character of a text, and what follows it.
-pub(crate) fn split_first(text: &str) -> Option<(char, &str)>
+pub fn split_first(text: &str) -> Option<(char, &str)>
     ensures value { MatchOption result (chars text.now ≡ []) (λ p. chars text.now ≡ p.0 ∷ chars p.1.now) }
     ensures shorter { IfSome result (λ p. length p.1.now < length text.now) }
 {

@@ -6,14 +6,17 @@ mod escapes;
 mod fault;
 mod front;
 mod listed;
-
 mod token;
 mod tokens;
 mod written;
 
 pub use ahead::{Kind, Level, arrow_ahead, known_ahead};
 pub use fault::Fault;
+pub use front::split_first;
 pub use listed::{Lexed, lex};
 pub use token::{Edge, Token, is_word};
 pub use tokens::{Tokens, first_is_sign, is_sign};
 pub use written::{attribute_text, jsx_text, name_text, written_text};
+
+#[cfg(test)]
+mod tests;
