@@ -15,3 +15,8 @@ mod lists;
 mod parts;
 mod read;
 mod tags;
+
+pub use grammar::Grammar;
+pub use lists::enter;
+pub use parts::{name, names, pattern};
+pub use read::{Group, Inner, Read};

@@ -9,3 +9,6 @@ mod statements;
 mod steps;
 
 pub use module::read_module;
+
+#[cfg(test)]
+mod tests;
