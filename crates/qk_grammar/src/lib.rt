@@ -9,6 +9,7 @@ mod fields;
 mod grammar;
 mod holes;
 mod jsx;
+mod keyed;
 mod links;
 mod levels;
 mod lists;
