@@ -35,8 +35,7 @@ impl<
     V: Fn(Global, &mut Tokens<'_, '_>, Form, usize, Inner) -> Result<Read, Fault>,
     B: Fn(Global, &mut Tokens<'_, '_>, Form, usize) -> Result<Body, Fault>,
     G: Fn(Global, &mut Tokens<'_, '_>, Form, usize, Group) -> Result<List<Stmt>, Fault>,
-> Grammar<V, B, G>
-{
+> Grammar<V, B, G> {
     /// What follows a key that is no name.
     #[tactic(auto, unfolding(qk_reading::specs::Forms::field_value))]
     fn field_value(&self, tokens: &mut Tokens<'_, '_>, key: Text) -> Result<Field, Fault>

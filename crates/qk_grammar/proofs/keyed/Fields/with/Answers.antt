@@ -8,4 +8,4 @@ pub invariant_of-result : goal.invariant_of-result
 invariant_of-result c =
     let same_key : string_bytes c.in_ok-key.key ≡ c.args.field.key = search rules in
     subst (λ fields. HasKeys c.insert.new.self fields) (sym c.in_ok-push.ensures.appended)
-        (has_more c.self.inside.keys c.insert.new.self c.in_ok-key.key c.self.inside.fields c.args.field c.self.invariant same_key c.in_ok-insert.ensures.updates)
+    (has_more c.self.inside.keys c.insert.new.self c.in_ok-key.key c.self.inside.fields c.args.field c.self.invariant same_key c.in_ok-insert.ensures.updates)
