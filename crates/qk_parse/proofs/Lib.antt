@@ -10,3 +10,4 @@ pub mod Standing
 pub mod Steps
 pub mod Trees
 pub mod Turns
+pub mod Parses

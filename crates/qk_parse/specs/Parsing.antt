@@ -7,6 +7,10 @@ use Rattle.qk_ast.specs.Faults.{LexicalAt}
 use Rattle.qk_ast.specs.Derives.{Derives, Parses, longest, deepest}
 use Rattle.qk_reading.specs.Laws.{ParsesWithin, RaisedPast}
 use Rattle.qk_token.specs.Lexed.{Listed, Lexes, place_of}
+use Rattle.qk_lex.specs.declared.LexFault.{LexFault}
+use Rattle.qk_lex.specs.declared.LexFault.TheVariants as lex
+use Rattle.qk_token.specs.declared.fault.Fault.{Fault}
+use Rattle.qk_token.specs.declared.fault.Fault.TheVariants as read
 use Rattle.qk_parse.specs.declared.parse.ParseFault.{ParseFault}
 use Rattle.qk_parse.specs.declared.parse.ParseFault.TheVariants.{TooLong, Lexical, Syntax, TooDeep, Memory}
 
@@ -42,3 +46,14 @@ Refused form text Memory = Unit {0}
 abbrev pub NoneDerived : Form → List ℕ → ParseFault → Type 0
 NoneDerived form text Memory = Unit {0}
 NoneDerived form text fault = (m : Module) → ¬ Derives form text m
+
+-- ---- the steps
+
+abbrev pub of_lex : LexFault → ParseFault
+of_lex (lex.Lexical at) = Lexical at
+of_lex lex.Memory = Memory
+
+abbrev pub placed : Listed → Fault → ParseFault
+placed found read.Memory = Memory
+placed found (read.Syntax left) = Syntax (place_of left found)
+placed found (read.TooDeep left) = TooDeep (place_of left found)

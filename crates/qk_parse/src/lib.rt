@@ -6,6 +6,7 @@ ghost use Rattle.qk_parse.specs.Answer.{FirstReading};
 
 mod fault;
 mod first;
+mod parse;
 mod source;
 #[cfg(test)]
 mod tests;
@@ -13,7 +14,8 @@ mod tree;
 mod words;
 
 use fault::Fault;
-pub use fault::ParseFault;
+pub use fault::ParseFault as FirstFault;
+pub use parse::{ParseFault, parse_module};
 use first::first;
 use qk_ast::Module;
 use source::Source;
@@ -23,7 +25,7 @@ use std::alloc::Global;
 const LONGEST: usize = 65_536;
 
 /// The module of a text of the first form, and None where the text hasn't that form.
-pub fn parse_first(alloc: Global, text: &str) -> Result<Option<Module>, ParseFault>
+pub fn parse_first(alloc: Global, text: &str) -> Result<Option<Module>, FirstFault>
     ensures { IfOk result (λ answer. FirstReading text.now answer) }
 {
     let bytes = text.as_bytes();
@@ -34,6 +36,6 @@ pub fn parse_first(alloc: Global, text: &str) -> Result<Option<Module>, ParseFau
     match first(alloc, &mut source) {
         Ok(module) => Ok(Some(module)),
         Err(Fault::Refused) => Ok(None),
-        Err(Fault::Memory) => Err(ParseFault::Memory),
+        Err(Fault::Memory) => Err(FirstFault::Memory),
     }
 }

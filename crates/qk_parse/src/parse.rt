@@ -1,10 +1,10 @@
 //! The parser of the whole grammar.
 
-ghost use Rattle.std.specs.Prelude.{◌≡◌, ◌≢◌, ◌≤◌, length, IfOk, IfErr};
+ghost use Rattle.std.specs.Prelude.{◌≡◌, ◌≤◌, length, chars, IfOk, IfErr};
 ghost use Rattle.qk_ast.specs.Derives as definition;
-ghost use Rattle.qk_parse.specs.Parsing.{Refused, NoneDerived};
+ghost use Rattle.qk_parse.specs.Parsing.{Refused, NoneDerived, of_lex, placed};
 ghost use Rattle.qk_parse.specs.declared.parse.ParseFault.TheVariants.{Memory};
-ghost use Rattle.qk_reading.specs.Reader as reader;
+ghost use Rattle.qk_reading.specs.Laws.{ReadsTexts, FaultsExactly, SyntaxOnlyWhereNone, TooDeepOnlyWhereRaised, FaultsInside};
 ghost use Rattle.qk_token.specs.Lexed.{Listed, Lexes, place_of};
 
 use qk_ast::{Form, Module};
@@ -29,14 +29,13 @@ pub enum ParseFault {
     Memory,
 }
 
-impl From<LexFault> for ParseFault {
-    ghost from_gives = { λ fault e. e ≡ of_lex fault };
-
-    fn from(fault: LexFault) -> ParseFault {
-        match fault {
-            LexFault::Lexical { at } => ParseFault::Lexical { at },
-            LexFault::Memory => ParseFault::Memory,
-        }
+/// The fault of a text without tokens.
+fn of_lex(fault: LexFault) -> ParseFault
+    ensures { result ≡ of_lex fault }
+{
+    match fault {
+        LexFault::Lexical { at } => ParseFault::Lexical { at },
+        LexFault::Memory => ParseFault::Memory,
     }
 }
 
@@ -77,6 +76,21 @@ fn placed(lexed: &Lexed<'_>, fault: Fault) -> ParseFault
     }
 }
 
+/// What is known of the reader. It does nothing.
+fn laws()
+    ensures texts { ReadsTexts }
+    ensures exact { FaultsExactly }
+    ensures nowhere { SyntaxOnlyWhereNone }
+    ensures deep { TooDeepOnlyWhereRaised }
+    ensures inside { FaultsInside }
+{
+    qk_reading::reads_texts();
+    qk_reading::faults_exactly();
+    qk_reading::syntax_only_where_none();
+    qk_reading::too_deep_only_where_raised();
+    qk_reading::faults_inside();
+}
+
 /// The module that the text derives in the form.
 ///
 /// `TooLong` comes first, then `Lexical`; then, of `Syntax` and `TooDeep`, the one that stands first. Each comes only where the text derives no module.
@@ -88,9 +102,23 @@ pub fn parse_module(alloc: Global, text: &str, form: Form) -> Result<Module, Par
     if longest(form) < text.len() {
         return Err(ParseFault::TooLong);
     }
-    let lexed = lex(alloc, text)?;
+    match lex(alloc, text) {
+        Ok(lexed) => parse_lexed(alloc, text, form, &lexed),
+        Err(fault) => Err(of_lex(fault)),
+    }
+}
+
+/// The module that the tokens of the text derive.
+fn parse_lexed(alloc: Global, text: &str, form: Form, lexed: &Lexed<'_>) -> Result<Module, ParseFault>
+    requires short { length text.now ≤ definition.longest form }
+    requires lexes { Lexes (chars text.now) lexed.now }
+    ensures derived { IfOk result (λ m. definition.Derives form text.now m) }
+    ensures refused { IfErr result (Refused form text.now) }
+    ensures none { IfErr result (NoneDerived form text.now) }
+{
+    laws();
     match read_module(alloc, form, deepest(form), lexed.tokens()) {
         Ok(module) => Ok(module),
-        Err(fault) => Err(placed(&lexed, fault)),
+        Err(fault) => Err(placed(lexed, fault)),
     }
 }

@@ -8,7 +8,7 @@ use Rattle.std.specs.Str.{chars, IsUtf8}
 use Rattle.std.proofs.lemmas.List.{take_all}
 use Rattle.std.proofs.lemmas.Str.{encodes-chars, length-le-encodes}
 use Rattle.qk_ast.specs.Characters.{Characters, is_hex_digit, digit_value, number_after, run, after_run}
-use Rattle.qk_ast.specs.Tokens.{Plain, Braced, piece_value}
+use Rattle.qk_ast.specs.Tokens.{Braced, piece_value}
 use Rattle.qk_ast.proofs.FrontToken.{if_true, if_false}
 use Rattle.qk_lex.specs.Quotes.{with_digit}
 use Rattle.qk_lex.proofs.Choices.{either_way}
@@ -39,11 +39,11 @@ and_true {b = false} h = h
 pub character_is : (n : ℕ) (ds : Characters) → n ≡ capped_after 0 ds → character_of n ≡ piece_value (standing (Braced ds))
 character_is n ds e = elim (either_way (scalar (number_after 16 0 ds))) [
   | inl h ↦
-    let same : n ≡ number_after 16 0 ds = e ∙ uncapped 0 ds (scalar_small _ h) in
-    ap character_of same ∙ (if_true _ _ h ∙ sym (ap piece_value (if_true _ _ (and_true h))))
+      let same : n ≡ number_after 16 0 ds = e ∙ uncapped 0 ds (scalar_small _ h) in
+      ap character_of same ∙ (if_true _ _ h ∙ sym (ap piece_value (if_true _ _ (and_true h))))
   | inr h ↦
-    let none : scalar n ≡ false = ap scalar e ∙ (same_scalar ds ∙ h) in
-    if_false _ _ none ∙ sym (ap piece_value (if_false _ _ (and_true h)))
+      let none : scalar n ≡ false = ap scalar e ∙ (same_scalar ds ∙ h) in
+      if_false _ _ none ∙ sym (ap piece_value (if_false _ _ (and_true h)))
 ]
 
 -- ---- the digits at the front, so many at most

@@ -1,5 +1,5 @@
 -- From the tokens of the definition and their places to the tokens that the parser meets.
-use Rattle.std.specs.Prelude.{◌≡◌, refl, ℕ, suc, ◌+◌, ◌-◌, ◌≤◌, ◌<◌, Bool, true, false, ◌&&◌, if◌then◌else◌, ◌==◌, List, [], ◌∷◌, ◌++◌, length, map, take, drop, chars, slice_range, IsTrue, Option, Some}
+use Rattle.std.specs.Prelude.{◌≡◌, refl, ℕ, suc, ◌+◌, ◌-◌, ◌≤◌, ◌<◌, true, false, ◌==◌, List, [], ◌∷◌, ◌++◌, length, take, drop, chars, slice_range, IsTrue, Option, Some}
 use Rattle.std.specs.Str.{encode_utf8_all, all_scalars, IsUtf8, IsCharBoundary}
 use mathlib.Core.Path.{sym, ◌∙◌, ap, subst}
 use native.Mathlib.Omega.{arith}
@@ -20,7 +20,7 @@ use Rattle.qk_token.specs.declared.token.Token.{Token as Held_token}
 use Rattle.qk_token.specs.declared.token.Token.TheVariants as held
 use Rattle.qk_token.specs.View.{token_of, tokens_of, Fits, AllFit}
 use Rattle.qk_token.specs.Pieces.{pieces_of}
-use Rattle.qk_token.specs.Lexed.{first_of, last_of, without_last, inside, part, token_written, Listed, Lexes, starts_of}
+use Rattle.qk_token.specs.Lexed.{without_last, part, token_written, Lexes, starts_of}
 use Rattle.qk_token.proofs.Ends.{last_there, before_last}
 use Rattle.qk_token.proofs.PieceReads.{text_read, template_read}
 use Rattle.qk_token.proofs.Spellings as before

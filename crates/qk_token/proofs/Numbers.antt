@@ -1,5 +1,5 @@
 -- A number grows with its digits, so what is small in the end is small on the way.
-use Rattle.std.specs.Prelude.{◌≡◌, refl, ℕ, ◌+◌, ◌*◌, ◌≤◌, [], ◌∷◌}
+use Rattle.std.specs.Prelude.{ℕ, ◌+◌, ◌*◌, ◌≤◌, [], ◌∷◌}
 use native.Mathlib.Omega.{arith}
 use Rattle.std.proofs.Math.Nat.{mul-le-mul_left}
 use Rattle.qk_ast.specs.Characters.{Characters, digit_value, number_after}

@@ -1,19 +1,19 @@
 -- The pieces of a text, one by one.
-use Rattle.std.specs.Prelude.{◌≡◌, refl, ℕ, zero, suc, ◌+◌, ◌≤◌, ◌<◌, Bool, true, false, not, ◌&&◌, if◌then◌else◌, ◌==◌, List, [], ◌∷◌, ◌++◌, length, map, take, drop, Option, Some, None}
+use Rattle.std.specs.Prelude.{◌≡◌, refl, ℕ, zero, suc, ◌≤◌, Bool, true, not, if◌then◌else◌, ◌==◌, List, [], ◌∷◌, ◌++◌, length, drop, Option, Some, None}
 use Rattle.std.specs.Str.{encode_utf8_all}
 use Rattle.std.specs.Char.{encode_utf8}
 use mathlib.Core.Path.{sym, ◌∙◌, ap, subst}
 use mathlib.Core.Logic.{inl, inr}
 use native.Mathlib.Omega.{arith}
 use Rattle.std.proofs.Common.{append_assoc, append-nil, length-drop}
-use Rattle.qk_ast.specs.Characters.{Characters, every, is_hex_digit, run, after_run}
+use Rattle.qk_ast.specs.Characters.{Characters, every, is_hex_digit, after_run}
 use Rattle.qk_ast.specs.Tokens.{Piece, piece_value}
 use Rattle.qk_ast.specs.Tree.{value}
 use Rattle.qk_lex.specs.Scan.{after_char}
 use Rattle.qk_lex.proofs.Choices.{either_way}
 use Rattle.qk_lex.proofs.EscapeLemmas.{char_found}
 use Rattle.qk_ast.proofs.FrontToken.{left, right, is_not, if_true, if_false}
-use Rattle.qk_token.specs.Pieces.{first_piece, pieces_from, pieces_of, after_backslash, after_u, by_digits, by_feed, four_digits, shown, stands_alone}
+use Rattle.qk_token.specs.Pieces.{first_piece, pieces_from, pieces_of, after_backslash, after_u, by_digits, by_feed, shown, stands_alone}
 
 -- ---- what follows a piece is no longer than what followed its first character
 

@@ -1,19 +1,17 @@
 -- The pieces of a token are those that are read off its spelling.
-use Rattle.std.specs.Prelude.{◌≡◌, refl, ℕ, zero, suc, Bool, true, false, not, ◌&&◌, ◌||◌, if◌then◌else◌, ◌==◌, List, [], ◌∷◌, ◌++◌, length, take, drop, Option, Some, None, codes}
-use Rattle.std.specs.Str.{all_scalars}
-use mathlib.Core.Path.{sym, ◌∙◌, ap, subst}
+use Rattle.std.specs.Prelude.{◌≡◌, refl, ℕ, suc, Bool, true, false, not, ◌&&◌, ◌==◌, List, [], ◌∷◌, ◌++◌, length, take, drop, Option, Some, None, codes}
+use mathlib.Core.Path.{sym, ◌∙◌, ap}
 use mathlib.Core.Logic.{inl, inr}
-use native.Mathlib.Omega.{arith}
 use Rattle.std.proofs.lemmas.Bool.{false≢true}
 use Rattle.std.proofs.lemmas.List.{drop_at}
-use Rattle.qk_ast.specs.Characters.{Characters, has, every, is_front, is_hex_digit, number_after, run, after_run}
+use Rattle.qk_ast.specs.Characters.{Characters, has, every, is_front, is_hex_digit, run, after_run}
 use Rattle.qk_ast.specs.Tokens.{Piece, Plain, Escaped, Four, Braced, Return, Return_feed, pieces_spelling, is_escape, are_text_pieces, is_template_piece, are_template_pieces}
 use Rattle.qk_ast.proofs.FrontToken.{left, right, is_not, if_true, if_false, run_found, after_found}
 use Rattle.qk_ast.proofs.Pieces.{nat_is, no_brace}
 use Rattle.qk_lex.specs.Scan.{after_char}
 use Rattle.qk_lex.proofs.Choices.{either_way, same_number}
 use Rattle.qk_lex.proofs.EscapeLemmas.{char_found, char_there}
-use Rattle.qk_token.specs.Pieces.{first_piece, pieces_of, standing, after_backslash, after_u, by_digits, by_feed}
+use Rattle.qk_token.specs.Pieces.{first_piece, pieces_of, standing, by_digits, by_feed}
 use Rattle.qk_token.proofs.PieceLemmas.{no_piece, one_piece}
 
 -- ---- one piece

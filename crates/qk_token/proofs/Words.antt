@@ -1,5 +1,5 @@
 -- A word of ASCII is the bytes of a text where it is the text's characters.
-use Rattle.std.specs.Prelude.{◌≡◌, refl, ℕ, Bool, true, ◌&&◌, nat_lt, chars, List, [], ◌∷◌}
+use Rattle.std.specs.Prelude.{◌≡◌, refl, ℕ, true, ◌&&◌, nat_lt, chars, List, [], ◌∷◌}
 use Rattle.std.specs.Str.{IsUtf8, encode_utf8_all}
 use mathlib.Core.Path.{sym, ◌∙◌, ap}
 use Rattle.std.proofs.lemmas.Str.{encodes-chars}

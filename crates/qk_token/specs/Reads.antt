@@ -1,5 +1,5 @@
 -- What a function that reads tokens ensures: what the reader answers, and where it stands then; want of memory is the one free answer.
-use Rattle.std.specs.Prelude.{◌≡◌, ◌≢◌, ℕ, List, Result, Ok, Err}
+use Rattle.std.specs.Prelude.{◌≡◌, ◌≢◌, Result, Ok, Err}
 use Rattle.qk_reading.specs.Input.{Input, Outcome}
 use Rattle.qk_reading.specs.Input as input
 use Rattle.qk_token.specs.declared.fault.Fault.{Fault}

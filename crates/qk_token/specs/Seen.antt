@@ -1,5 +1,4 @@
 -- What the reader calls the levels, kinds and places that the code has.
-use Rattle.std.specs.Prelude.{List}
 use Rattle.qk_ast.specs.Grammar as grammar
 use Rattle.qk_reading.specs.Input as input
 use Rattle.qk_reading.specs.Ahead as ahead

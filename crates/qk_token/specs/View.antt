@@ -1,5 +1,5 @@
 -- The grammar's token that a token is, and what is left of the tokens.
-use Rattle.std.specs.Prelude.{◌≡◌, ℕ, Bool, true, ◌&&◌, nat_lt, List, [], ◌∷◌, map, chars}
+use Rattle.std.specs.Prelude.{◌≡◌, Bool, true, ◌&&◌, nat_lt, List, [], ◌∷◌, map, chars}
 use Rattle.qk_ast.specs.Characters.{Characters}
 use Rattle.qk_ast.specs.Tokens as tokens
 use Rattle.qk_ast.specs.Tokens.{is_int}

@@ -222,7 +222,11 @@ fn scan_sign(scan: Scan, sign: &str) -> Option<Scan>
             }
         }
         Scan::AtFirst => None,
-        Scan::AtNext => if is_word(sign, b"}") { Some(Scan::AfterPattern) } else { None },
+        Scan::AtNext => if is_word(sign, b"}") {
+            Some(Scan::AfterPattern)
+        } else {
+            None
+        },
         Scan::AfterName => {
             if is_word(sign, b"}") {
                 Some(Scan::AfterPattern)
@@ -341,7 +345,11 @@ fn known_from(object: &str, sign: &str, more: &[Token<'_>]) -> Option<Known>
     ensures { result ≡ spec.known_ahead (grammar.Name (chars object.now) ∷ grammar.Punct (chars sign.now) ∷ tokens_of more.now) }
 {
     if is_word(sign, b"(") {
-        if is_word(object, b"String") { Some(Known::Str) } else { None }
+        if is_word(object, b"String") {
+            Some(Known::Str)
+        } else {
+            None
+        }
     } else if is_word(sign, b".") {
         known_dotted(object, more)
     } else {

@@ -105,7 +105,13 @@ fn unescaped(text: &str) -> (char, &str)
 {
     match split_first(text) {
         None => ('\\', text),
-        Some((c, rest)) => { if c == 'u' { numbered(rest) } else { (escaped(c), rest) } }
+        Some((c, rest)) => {
+            if c == 'u' {
+                numbered(rest)
+            } else {
+                (escaped(c), rest)
+            }
+        }
     }
 }
 

@@ -17,6 +17,7 @@ use std::marker::Model;
 #[derive(Drop)]
 pub struct Lexed<'t> {
     tokens: Vec<Token<'t>>,
+    /// Where they stand in the text.
     places: Vec<qk_lex::Token>,
     /// Where the text ends.
     end: usize,
@@ -37,7 +38,11 @@ impl<'t> Model for Lexed<'t> {
 fn edge_at(c: char) -> Edge
     ensures { edge_of result ≡ spec.edge_at c }
 {
-    if c == '`' { Edge::Backquote } else { Edge::Hole }
+    if c == '`' {
+        Edge::Backquote
+    } else {
+        Edge::Hole
+    }
 }
 
 /// A text in quotes, of code or of an attribute.
@@ -77,7 +82,11 @@ fn token_from(kind: Kind, jsx: bool, text: &str) -> Token<'_>
         Kind::Int => Token::Int(text),
         Kind::Text => quoted(jsx, text),
         Kind::TemplatePart => template(text),
-        Kind::Punct => if jsx { Token::Begin(text) } else { Token::Punct(text) },
+        Kind::Punct => if jsx {
+            Token::Begin(text)
+        } else {
+            Token::Punct(text)
+        },
         Kind::JsxText => Token::JsxText(text),
     }
 }

@@ -7,9 +7,9 @@ ghost use Rattle.qk_ast.specs.Tree.{bytes, value};
 ghost use Rattle.qk_token.specs.Pieces.{pieces_of, stands_alone};
 ghost use Rattle.qk_token.specs.declared.fault.Fault.TheVariants.{Memory};
 
+use crate::escapes::first_character;
 use crate::fault::Fault;
 use crate::front::split_first;
-use crate::escapes::first_character;
 use qk_shared::Text;
 use std::alloc::{AllocError, Global};
 

@@ -1,5 +1,4 @@
 use Rattle.std.proofs.Common.{◌∙◌, rules}
-use Rattle.std.specs.Str.{chars}
 use Rattle.qk_token.proofs.Hex.{begins, value_stops, rest_stops, value_ends, rest_ends, goes_on}
 use Rattle.qk_token.proofs.escapes.hex_character.Goals as goal
 

@@ -1,4 +1,4 @@
-use Rattle.std.proofs.Common.{◌≡◌, ◌∙◌, ◌++◌, sym, ap, rules}
+use Rattle.std.proofs.Common.{◌∙◌, ◌++◌, sym, ap, rules}
 use Rattle.std.specs.Char.{encode_utf8, IsScalar}
 use Rattle.qk_token.proofs.Ends.{no_characters, characters_last}
 use Rattle.qk_token.proofs.front.split_last.Goals as goal

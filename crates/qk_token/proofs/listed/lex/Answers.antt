@@ -1,4 +1,4 @@
-use Rattle.std.proofs.Common.{◌≡◌, ◌∙◌, List, [], ◌∷◌, ◌++◌, refl, ap, sym, subst, length, drop}
+use Rattle.std.proofs.Common.{◌∙◌, List, [], ◌∷◌, ◌++◌, refl, ap, sym, subst, length}
 use Rattle.std.specs.Str.{chars}
 use Rattle.qk_lex.specs.Reading.{TokensAt}
 use Rattle.qk_lex.specs.declared.Token.{Token as Placed_token}

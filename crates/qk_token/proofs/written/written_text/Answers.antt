@@ -1,4 +1,4 @@
-use Rattle.std.proofs.Common.{◌≡◌, ◌∙◌, sym, ap, subst, rules}
+use Rattle.std.proofs.Common.{◌≡◌, ◌∙◌, sym, subst, rules}
 use Rattle.std.specs.Prelude.{IfOk}
 use Rattle.std.specs.Str.{chars}
 use Rattle.std.specs.String.{string_bytes}
