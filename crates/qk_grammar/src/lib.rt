@@ -9,9 +9,15 @@ mod fields;
 mod grammar;
 mod holes;
 mod jsx;
-mod links;
+mod keyed;
 mod levels;
+mod links;
 mod lists;
 mod parts;
 mod read;
 mod tags;
+
+pub use grammar::Grammar;
+pub use lists::enter;
+pub use parts::{name, names, pattern};
+pub use read::{Group, Inner, Read};

@@ -1,0 +1,12 @@
+use Rattle.std.proofs.Common.{rules, arith}
+use Rattle.std.proofs.lemmas.Grind.{common_steps}
+use Rattle.qk_reading.specs.Input.{many_from}
+use Rattle.qk_reading.specs.Reader.{next_item}
+use Rattle.qk_grammar.proofs.Turns.{one_more}
+use Rattle.qk_module.proofs.module.items.Goals as goal
+
+pub loop-turn-preserved : goal.loop-turn-preserved
+unfolding many_from
+loop-turn-preserved c =
+    let e = one_more (λ n. many_from (next_item c.args.form c.args.room) n c.loop-turn.found c.loop-turn.tokens) _ c.loop-turn._turn c.loop-turn-test.true c.loop-turn.invariant in
+    first_of (search rules, grind (arith, common_steps))
