@@ -1,5 +1,5 @@
 -- A module that has the parts of the first shape is that of a text of the first form.
-use Rattle.std.specs.Prelude.{◌≡◌, refl, ℕ, ◌^◌, ◌≤◌, ◌<◌, ℤ, pos, negsuc, ◌≤ℤ◌, nat_le, Bool, true, false, not, ◌&&◌, List, [], ◌∷◌, ◌++◌, map, Option, Some, None, IsTrue, codes}
+use Rattle.std.specs.Prelude.{◌≡◌, refl, ℕ, ◌≤◌, ℤ, pos, negsuc, ◌≤ℤ◌, Bool, true, false, not, ◌&&◌, List, [], ◌∷◌, ◌++◌, map, Option, Some, None, IsTrue, codes}
 use Rattle.std.specs.Str.{encode_utf8_all}
 use Rattle.std.specs.Char.{encode_utf8}
 use Rattle.std.specs.Option.{option_copied}
@@ -7,7 +7,7 @@ use Rattle.std.proofs.Common.{ap, ◌∙◌, arith}
 use Rattle.std.proofs.lemmas.Bool.{false≢true, le-leb}
 use Rattle.std.proofs.lemmas.Int.{ints}
 use mathlib.Core.Path.{sym, subst}
-use mathlib.Core.Logic.{◌⊎◌, inl, inr}
+use mathlib.Core.Logic.{inl, inr}
 use lib.Signed.{mag}
 use Rattle.qk_ast.specs.declared.Module.{Module}
 use Rattle.qk_ast.specs.declared.Import.{Import}
@@ -18,23 +18,21 @@ use Rattle.qk_ast.specs.declared.Link.TheVariants as l
 use Rattle.qk_ast.specs.declared.Body.TheVariants as b
 use Rattle.qk_ast.specs.declared.Stmt.{Stmt}
 use Rattle.qk_ast.specs.declared.Tag.{Tag}
-use Rattle.qk_ast.specs.declared.Tag.TheVariants as t
 use Rattle.qk_ast.specs.declared.Field.{Field}
 use Rattle.qk_ast.specs.declared.Jsx.{Jsx, out-Jsx, roll-Jsx, roll-out-Jsx}
-use Rattle.qk_ast.specs.Characters.{Characters, every, is_small_letter, is_one_of, number_after}
+use Rattle.qk_ast.specs.Characters.{Characters, is_one_of, number_after}
 use Rattle.qk_ast.specs.Grammar.{Names, Last_name, Last_comma, Next_name, Element, Then, Return_step, Plain_step, Markup, No_statement}
 use Rattle.qk_ast.specs.Rules.{is_distinct}
 use Rattle.qk_ast.specs.JsxText.{decoded}
 use Rattle.qk_ast.specs.Tree.{module_tree, names_tree, statements_tree, element_tree, attributes_tree, tag_tree}
-use Rattle.qk_ast.specs.First.{First_text, First_attribute, Id, On_click, Shape, Selfclosing, Empty, Shown, Fits, module_of, block_of, element_of, attributes_of, names_of, are_qwik_names, qwik_names, attribute_name, attributes_fit, is_short_word, state_fits}
+use Rattle.qk_ast.specs.First.{First_text, First_attribute, Id, On_click, Shape, Empty, Shown, Fits, module_of, block_of, element_of, attributes_of, names_of, are_qwik_names, qwik_names, attribute_name, attributes_fit}
 use Rattle.qk_meaning.specs.Value.{Text}
-use Rattle.qk_meaning.specs.Item.{Event}
 use Rattle.qk_meaning.specs.Texts.{digits_before}
-use Rattle.qk_first.specs.Counter.{Counter, counter_of, is_shown, initial_of, listener, first_output}
-use Rattle.qk_first.specs.Shape.{HasFirstShape, import_of, app_of, signal_of, return_of, value_in, listener_of, IsId, IsListener, AreAttributes, AreChildren, IsElement, is_import, MayStand}
+use Rattle.qk_first.specs.Counter.{Counter, is_shown, listener, first_output}
+use Rattle.qk_first.specs.Shape.{import_of, app_of, signal_of, return_of, value_in, listener_of, IsId, IsListener, AreAttributes, AreChildren, IsElement, is_import, MayStand}
 use Rattle.qk_first.specs.declared.shape.Counter.{Counter as Kept}
 use Rattle.qk_first.specs.declared.shape.Signal.{Signal}
-use Rattle.qk_first.specs.Kept.{id_among, listener_among, counter_in, PlaysAs, IsCounterOf, name_in, initial_in, statements_in, SignalStands}
+use Rattle.qk_first.specs.Kept.{id_among, listener_among, PlaysAs, IsCounterOf, name_in, initial_in, statements_in, SignalStands}
 use Rattle.qk_first.proofs.Texts.{left, right, both, among, word, IsWord, letters_bytes, letters_decoded}
 use Rattle.qk_first.proofs.Listings.{Listing, listing, nothing, id_only, click_only, id_click, click_id}
 use Rattle.qk_first.proofs.Trees.{tag_is}
@@ -121,21 +119,21 @@ written name n None (Some up) fields h = record {
   made = h.1 ∙ ap (λ (x : Field). x ∷ []) (listener_made name n up h.0 h.2);
 }
 written name n (Some id) (Some up) fields h = elim h.2 [
-    | inl e ↦ record {
-        attributes = Id id ∷ On_click up ∷ [];
-        fits = both _ _ (both _ _ h.3.0 refl) refl;
-        same_id = refl;
-        same_listener = refl;
-        made = two_are fields h.0 h.1 _ _ e (id_made id h.0 h.3) (listener_made name n up h.1 h.4);
-      }
-    | inr e ↦ record {
-        attributes = On_click up ∷ Id id ∷ [];
-        fits = both _ _ (both _ _ h.3.0 refl) refl;
-        same_id = refl;
-        same_listener = refl;
-        made = two_are fields h.1 h.0 _ _ e (listener_made name n up h.1 h.4) (id_made id h.0 h.3);
-      }
-  ]
+  | inl e ↦ record {
+    attributes = Id id ∷ On_click up ∷ [];
+    fits = both _ _ (both _ _ h.3.0 refl) refl;
+    same_id = refl;
+    same_listener = refl;
+    made = two_are fields h.0 h.1 _ _ e (id_made id h.0 h.3) (listener_made name n up h.1 h.4);
+  }
+  | inr e ↦ record {
+    attributes = On_click up ∷ Id id ∷ [];
+    fits = both _ _ (both _ _ h.3.0 refl) refl;
+    same_id = refl;
+    same_listener = refl;
+    made = two_are fields h.1 h.0 _ _ e (listener_made name n up h.1 h.4) (id_made id h.0 h.3);
+  }
+]
 
 -- ---- the element
 
@@ -272,10 +270,10 @@ module _ (m : Module) (names : List Text) (jsx : Jsx) (kept : Kept) (imports : m
       } in
       let made = element_made s.name.now kept.tag.now n (option_copied kept.id) kept.counts_up kept.shows jsx el a in
       let stated : first_statements f ≡ statements_in (Some s) jsx =
-          with_signal digits s.name.now (element_in f)
-          ∙ (ap (λ (t : Text). signal_of t (pos (number_after 10 0 digits)) ∷ return_of (element_tree 1 (element_in f)) ∷ []) n
-          ∙ (ap (λ (z : ℤ). signal_of s.name.now z ∷ return_of (element_tree 1 (element_in f)) ∷ []) value
-          ∙ ap (λ (j : Jsx). signal_of s.name.now s.initial ∷ return_of j ∷ []) (sym made))) in
+      with_signal digits s.name.now (element_in f)
+      ∙ (ap (λ (t : Text). signal_of t (pos (number_after 10 0 digits)) ∷ return_of (element_tree 1 (element_in f)) ∷ []) n
+      ∙ (ap (λ (z : ℤ). signal_of s.name.now z ∷ return_of (element_tree 1 (element_in f)) ∷ []) value
+      ∙ ap (λ (j : Jsx). signal_of s.name.now s.initial ∷ return_of j ∷ []) (sym made))) in
       record {
         shape = record { text = f; fits = fits; means = module_from f m names (statements_in (Some s) jsx) imports items (imported_tree i h) stated };
         plays = plays kept a.attributes (pos (number_after 10 0 digits)) (is_shown (shape_of kept.shows)) (listing a.attributes a.fits) a.same_id a.same_listener (first ∙ sym value) (sym (shown_is kept.shows)) small;

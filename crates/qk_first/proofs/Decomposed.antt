@@ -1,5 +1,5 @@
 -- A module of the first shape has each of its parts.
-use Rattle.std.specs.Prelude.{◌≡◌, refl, ℕ, ◌≤◌, ℤ, pos, ◌≤ℤ◌, nat_le, Bool, true, false, not, ◌&&◌, List, [], ◌∷◌, map, Option, Some, None, IsTrue, IsSomeAnd, codes}
+use Rattle.std.specs.Prelude.{◌≡◌, refl, ℤ, pos, ◌≤ℤ◌, not, List, [], ◌∷◌, map, Option, Some, None, IsTrue, IsSomeAnd, codes}
 use Rattle.std.specs.Str.{encode_utf8_all}
 use Rattle.std.specs.Char.{encode_utf8}
 use Rattle.std.proofs.Common.{ap, ◌∙◌, arith}
@@ -11,13 +11,12 @@ use Rattle.qk_ast.specs.declared.Module.{Module}
 use Rattle.qk_ast.specs.declared.Expr.{Expr}
 use Rattle.qk_ast.specs.declared.Expr.TheVariants as e
 use Rattle.qk_ast.specs.declared.Stmt.{Stmt}
-use Rattle.qk_ast.specs.declared.Tag.TheVariants as t
 use Rattle.qk_ast.specs.declared.Field.{Field}
-use Rattle.qk_ast.specs.declared.Jsx.{Jsx, out-Jsx, roll-Jsx, out-roll-Jsx}
+use Rattle.qk_ast.specs.declared.Jsx.{Jsx, out-Jsx, out-roll-Jsx}
 use Rattle.qk_ast.specs.Characters.{Characters, is_one_of, number_after}
-use Rattle.qk_ast.specs.Grammar.{Element, Then, Return_step, Plain_step, Markup, No_statement}
-use Rattle.qk_ast.specs.Tree.{names_tree, statements_tree, element_tree, attributes_tree, tag_tree}
-use Rattle.qk_ast.specs.First.{First_text, First_attribute, Id, On_click, Shape, Selfclosing, Empty, Shown, Fits, module_of, block_of, element_of, attributes_of, names_of, attribute_name, attributes_fit, first_tags, is_short_word, state_fits}
+use Rattle.qk_ast.specs.Grammar.{Then, Return_step, Plain_step, Markup, No_statement}
+use Rattle.qk_ast.specs.Tree.{statements_tree, element_tree, attributes_tree, tag_tree}
+use Rattle.qk_ast.specs.First.{First_text, First_attribute, Shape, Selfclosing, Empty, Shown, Fits, block_of, element_of, attributes_of, names_of, attribute_name, attributes_fit, first_tags, state_fits}
 use Rattle.qk_meaning.specs.Value.{Text}
 use Rattle.qk_first.specs.Counter.{is_shown, listener}
 use Rattle.qk_first.specs.Shape.{HasFirstShape, import_of, app_of, signal_of, return_of, value_in, listener_of, AreAttributes, AreChildren, IsElement, is_signal_name, MayStand}

@@ -1,9 +1,8 @@
 -- A number that is written in digits is read as that number.
-use Rattle.std.specs.Prelude.{◌≡◌, refl, ℕ, zero, suc, ◌+◌, ◌*◌, ◌/◌, ◌%◌, ◌^◌, ◌≤◌, ◌<◌, ltb, nat_le, Bool, true, false, List, [], ◌∷◌}
+use Rattle.std.specs.Prelude.{◌≡◌, refl, ℕ, zero, suc, ◌+◌, ◌/◌, ◌%◌, ◌^◌, ◌<◌, ltb, nat_le, Bool, true, false, ◌∷◌}
 use Rattle.std.proofs.Common.{ap, ◌∙◌, arith}
-use mathlib.Core.Path.{sym, subst}
 use Rattle.std.proofs.Math.Nat.{pow-suc}
-use Rattle.std.proofs.lemmas.Bool.{le-leb, ltb-true, ltb-false}
+use Rattle.std.proofs.lemmas.Bool.{le-leb, ltb-true}
 use Rattle.qk_ast.specs.Characters.{Characters, is_digit, digit_value, number_after}
 use Rattle.qk_meaning.specs.Texts.{digits_before}
 use Rattle.qk_first.proofs.Texts.{both}

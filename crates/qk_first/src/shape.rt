@@ -139,7 +139,11 @@ fn argument<'m>(x: &'m Expr, f: &str) -> Option<&'m Expr>
     let [only] = arguments.as_slice() else {
         return None;
     };
-    if is_name(head.get(), f) { Some(only) } else { None }
+    if is_name(head.get(), f) {
+        Some(only)
+    } else {
+        None
+    }
 }
 
 fn is_name(x: &Expr, name: &str) -> bool
@@ -296,7 +300,11 @@ fn one_attribute<'m>(only: &'m Field, name: Option<&Text>) -> Option<Attributes<
     })
 }
 
-fn two_attributes<'m>(first: &'m Field, second: &'m Field, name: Option<&Text>) -> Option<Attributes<'m>>
+fn two_attributes<'m>(
+    first: &'m Field,
+    second: &'m Field,
+    name: Option<&Text>,
+) -> Option<Attributes<'m>>
     ensures found { IfSome result (λ r. AreAttributes (option_copied name.entry) (option_copied r.id) r.counts_up (first.now ∷ second.now ∷ [])) }
     ensures whole { (id : _) (counts_up : _) → AreAttributes (option_copied name.entry) id counts_up (first.now ∷ second.now ∷ []) → IsSome result }
 {

@@ -1,4 +1,4 @@
-use Rattle.std.proofs.Common.{rules, ◌≡◌, ap, sym}
+use Rattle.std.proofs.Common.{rules, ap}
 use Rattle.qk_first.specs.Shape.{block_of}
 use Rattle.qk_first.proofs.Found.{if_some, app_is}
 use Rattle.qk_first.proofs.shape.app.Goals as goal

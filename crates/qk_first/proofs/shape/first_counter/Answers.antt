@@ -1,8 +1,7 @@
-use Rattle.std.proofs.Common.{rules, ◌≡◌, [], ◌∷◌, IsTrue, ap, sym, ◌∙◌, subst}
+use Rattle.std.proofs.Common.{[], ◌∷◌, IsTrue, ap, sym, ◌∙◌, subst}
 use Rattle.std.proofs.lemmas.Bool.{false≢true}
-use Rattle.std.specs.Option.{option_copied}
-use Rattle.qk_first.specs.Shape.{HasFirstShape, is_import, app_of, IsElement}
-use Rattle.qk_first.specs.Kept.{name_in, initial_in, SignalStands, IsCounterOf}
+use Rattle.qk_first.specs.Shape.{HasFirstShape, is_import, app_of}
+use Rattle.qk_first.specs.Kept.{SignalStands}
 use Rattle.qk_first.proofs.Found.{both_some, refuted, unless_some}
 use Rattle.qk_first.proofs.Composed.{composed}
 use Rattle.qk_first.proofs.Decomposed.{imports_are, items_are, of_a_kind, told, told_element}

@@ -1,4 +1,3 @@
-use Rattle.std.proofs.Common.{rules, ◌≡◌}
 use Rattle.qk_ast.specs.declared.Expr.TheVariants as e
 use Rattle.qk_first.proofs.shape.first_value.Goals as goal
 

@@ -1,4 +1,4 @@
-use Rattle.std.proofs.Common.{rules, ◌≡◌, refl, inl, inr}
+use Rattle.std.proofs.Common.{refl, inl, inr}
 use Rattle.qk_first.proofs.shape.two_attributes.Goals as goal
 
 pub returns-in-Some-clause-found : goal.returns-in-Some-clause-found
