@@ -1,10 +1,8 @@
 -- The keys of fields, with one field more.
-use Rattle.std.specs.Prelude.{◌≡◌, refl, ℕ, Bool, true, false, ◌&&◌, ◌||◌, ◌==◌, List, [], ◌∷◌, ◌++◌, String, bytes_eq}
+use Rattle.std.specs.Prelude.{◌≡◌, refl, ℕ, Bool, true, false, ◌||◌, List, [], ◌∷◌, ◌++◌, String, bytes_eq}
 use mathlib.Core.Bool.{cond}
 use mathlib.Core.Path.{sym, ◌∙◌, ap}
 use Rattle.std.specs.String.{string_cmp, string_bytes}
-use Rattle.std.specs.Ordering.{nat_cmp}
-use Rattle.std.specs.Cmp.Lexicographic.{slice_cmp}
 use Rattle.std.specs.BTreeSet as sorted
 use Rattle.std.specs.BTreeSet.{BTreeSet}
 use Rattle.std.proofs.lemmas.Map.Text.{btree_set_updates_text}

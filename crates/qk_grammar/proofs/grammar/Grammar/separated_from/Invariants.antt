@@ -1,4 +1,4 @@
-use Rattle.std.proofs.Common.{◌≡◌, ◌-◌, length}
+use Rattle.std.proofs.Common.{◌≡◌, ◌-◌}
 use Rattle.qk_reading.specs.Input.{Sign, left, separated_from}
 use Rattle.qk_reading.specs.Forms.{nested}
 use Rattle.qk_reading.specs.Reader.{nesting}
