@@ -35,7 +35,7 @@ same_bytes [] (d ∷ ds) = refl
 same_bytes (c ∷ cs) [] = refl
 same_bytes (c ∷ cs) (d ∷ ds) = ap (λ b. (c == d) && b) (same_bytes cs ds)
 
-same_is : (a b : List ℕ) → same a b ≡ true → a ≡ b
+pub same_is : (a b : List ℕ) → same a b ≡ true → a ≡ b
 same_is [] [] h = refl
 same_is [] (d ∷ ds) h = absurd (false≢true h)
 same_is (c ∷ cs) [] h = absurd (false≢true h)
@@ -44,12 +44,12 @@ same_is (c ∷ cs) (d ∷ ds) h = ap (λ x. x ∷ cs) (eqb→eq c d (subst T (sy
 both : (a b : Bool) → a ≡ true → b ≡ true → (a && b) ≡ true
 both a b h k = ap (λ c. c && b) h ∙ k
 
-same_own : (a : List ℕ) → same a a ≡ true
+pub same_own : (a : List ℕ) → same a a ≡ true
 same_own [] = refl
 same_own (c ∷ cs) = both (eqb c c) (same cs cs) (eq-eqb c c refl) (same_own cs)
 
 -- two tests that hold together
-together : (a b : Bool) → (a ≡ true → b ≡ true) → (b ≡ true → a ≡ true) → a ≡ b
+pub together : (a b : Bool) → (a ≡ true → b ≡ true) → (b ≡ true → a ≡ true) → a ≡ b
 together true b h k = sym (h refl)
 together false true h k = k refl
 together false false h k = refl

@@ -2,3 +2,4 @@ pub mod Seen
 pub mod Nests
 pub mod FormsSeen
 pub mod Levels
+pub mod Keyed

@@ -53,8 +53,7 @@ impl<
     V: Fn(Global, &mut Tokens<'_, '_>, Form, usize, Inner) -> Result<Read, Fault>,
     B: Fn(Global, &mut Tokens<'_, '_>, Form, usize) -> Result<Body, Fault>,
     G: Fn(Global, &mut Tokens<'_, '_>, Form, usize, Group) -> Result<List<Stmt>, Fault>,
-> Grammar<V, B, G>
-{
+> Grammar<V, B, G> {
     /// An expression behind its `(`.
     #[tactic(auto, unfolding(qk_reading::specs::Forms::bracketed))]
     fn bracketed(&self, tokens: &mut Tokens<'_, '_>) -> Result<Expr, Fault>
@@ -123,10 +122,7 @@ impl<
         let mut parts = Builder::new(self.alloc);
         parts.push(text)?;
         let values = Builder::new(self.alloc);
-        Ok(Expr::Template(
-            parts.into_list(self.alloc)?,
-            values.into_list(self.alloc)?,
-        ))
+        Ok(Expr::Template(parts.into_list(self.alloc)?, values.into_list(self.alloc)?))
     }
 
     /// What stands for itself, by its first token.

@@ -136,8 +136,7 @@ impl<
     V: Fn(Global, &mut Tokens<'_, '_>, Form, usize, Inner) -> Result<Read, Fault>,
     B: Fn(Global, &mut Tokens<'_, '_>, Form, usize) -> Result<Body, Fault>,
     G: Fn(Global, &mut Tokens<'_, '_>, Form, usize, Group) -> Result<List<Stmt>, Fault>,
-> Grammar<V, B, G>
-{
+> Grammar<V, B, G> {
     /// The arguments behind the first one.
     fn more(&self, tokens: &mut Tokens<'_, '_>, first: Expr) -> Result<Args, Fault>
         requires values { Values self.now.form self.now.room (V.pre self.now.value) (V.post self.now.value) }

@@ -1,7 +1,6 @@
 //! Records.
 
 ghost use Rattle.std.specs.Prelude.{◌≡◌, chars, codes};
-ghost use Rattle.qk_ast.specs.Characters.{same, is_one_of};
 ghost use Rattle.qk_ast.specs.Tree.{bytes};
 ghost use Rattle.qk_reading.specs.Input as input;
 ghost use Rattle.qk_reading.specs.Parts as parts;
@@ -12,40 +11,20 @@ ghost use Rattle.qk_grammar.specs.Nests.{Values, Bodies, Groups};
 ghost use Rattle.qk_grammar.specs.Seen.{items_of};
 
 use crate::grammar::Grammar;
+use crate::keyed::Fields;
 use crate::lists::enter;
 use crate::read::{Group, Inner, Read};
 use qk_ast::{Body, Expr, Field, Form, Stmt};
-use qk_shared::{Builder, List, Text};
+use qk_shared::{List, Text};
 use qk_token::{Fault, Token, Tokens, name_text, written_text};
 use std::alloc::Global;
 
-/// Whether both keys have the same bytes.
-#[tactic(auto, using(crate::proofs::Words::same_bytes))]
-fn is_same(key: &Text, other: &Text) -> bool
-    ensures { result ≡ same key.now other.now }
-{
-    key.is_same(other)
-}
-
-/// Whether one of the fields has the key.
-fn has_key(mut fields: &[Field], key: &Text) -> bool
-    ensures { result ≡ is_one_of key.now (parts.keys fields.entry.now) }
-{
-    while let [field, more @ ..] = fields {
-        if is_same(key, &field.key) {
-            return true;
-        }
-        fields = more;
-    }
-    false
-}
-
 /// Takes a key, which none of the fields may have.
 #[tactic(auto, unfolding(qk_reading::specs::Parts::fresh))]
-fn fresh(tokens: &mut Tokens<'_, '_>, found: &Builder<Field>, key: &Text) -> Result<(), Fault>
+fn fresh(tokens: &mut Tokens<'_, '_>, found: &Fields, key: &Text) -> Result<(), Fault>
     ensures { Reads (parts.fresh key.now found.now tokens.old) result tokens.new }
 {
-    if has_key(found.as_slice(), key) {
+    if found.has_key(key) {
         return Err(tokens.refuse());
     }
     tokens.take();
@@ -56,8 +35,7 @@ impl<
     V: Fn(Global, &mut Tokens<'_, '_>, Form, usize, Inner) -> Result<Read, Fault>,
     B: Fn(Global, &mut Tokens<'_, '_>, Form, usize) -> Result<Body, Fault>,
     G: Fn(Global, &mut Tokens<'_, '_>, Form, usize, Group) -> Result<List<Stmt>, Fault>,
-> Grammar<V, B, G>
-{
+> Grammar<V, B, G> {
     /// What follows a key that is no name.
     #[tactic(auto, unfolding(qk_reading::specs::Forms::field_value))]
     fn field_value(&self, tokens: &mut Tokens<'_, '_>, key: Text) -> Result<Field, Fault>
@@ -85,7 +63,7 @@ impl<
 
     /// A field whose key none of those found has.
     #[tactic(auto, unfolding(qk_reading::specs::Forms::field))]
-    fn field(&self, tokens: &mut Tokens<'_, '_>, found: &Builder<Field>) -> Result<Field, Fault>
+    fn field(&self, tokens: &mut Tokens<'_, '_>, found: &Fields) -> Result<Field, Fault>
         requires values { Values self.now.form self.now.room (V.pre self.now.value) (V.post self.now.value) }
         ensures { Reads (forms.field self.now.form self.now.room (nesting self.now.form self.now.room) found.now tokens.old) result tokens.new }
     {
@@ -111,17 +89,17 @@ impl<
 
     /// Fields between commas up to `}`, which stays.
     #[tactic(auto, unfolding(qk_reading::specs::Input::collected, qk_reading::specs::Input::collected_from))]
-    fn collected(&self, tokens: &mut Tokens<'_, '_>) -> Result<Builder<Field>, Fault>
+    fn collected(&self, tokens: &mut Tokens<'_, '_>) -> Result<Fields, Fault>
         requires values { Values self.now.form self.now.room (V.pre self.now.value) (V.post self.now.value) }
         ensures { Reads (items_of (input.collected (input.Sign (codes "}")) (forms.field self.now.form self.now.room (nesting self.now.form self.now.room))) tokens.old) result tokens.new }
     {
-        let mut found = Builder::new(self.alloc);
+        let mut found = Fields::new(self.alloc);
         for _turn in 0..tokens.left() {
             if tokens.sees(b"}") {
                 return Ok(found);
             }
             let field = self.field(tokens, &found)?;
-            found.push(field)?;
+            found = found.with(self.alloc, field)?;
             if !tokens.eat(b",") {
                 return Ok(found);
             }

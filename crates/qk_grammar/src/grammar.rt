@@ -31,8 +31,7 @@ impl<
     V: Fn(Global, &mut Tokens<'_, '_>, Form, usize, Inner) -> Result<Read, Fault>,
     B: Fn(Global, &mut Tokens<'_, '_>, Form, usize) -> Result<Body, Fault>,
     G: Fn(Global, &mut Tokens<'_, '_>, Form, usize, Group) -> Result<List<Stmt>, Fault>,
-> Grammar<V, B, G>
-{
+> Grammar<V, B, G> {
     /// What may stand one level further in.
     pub fn inner(&self, tokens: &mut Tokens<'_, '_>, which: Inner) -> Result<Read, Fault>
         requires { Values self.now.form self.now.room (V.pre self.now.value) (V.post self.now.value) }
@@ -58,7 +57,11 @@ impl<
     }
 
     /// The statements of a block, or of a part that is none.
-    pub fn statements_of(&self, tokens: &mut Tokens<'_, '_>, which: Group) -> Result<List<Stmt>, Fault>
+    pub fn statements_of(
+        &self,
+        tokens: &mut Tokens<'_, '_>,
+        which: Group,
+    ) -> Result<List<Stmt>, Fault>
         requires { Groups self.now.form self.now.room (G.pre self.now.group) (G.post self.now.group) }
         ensures { Reads ((nesting self.now.form self.now.room).group (group_of which) tokens.old) result tokens.new }
     {

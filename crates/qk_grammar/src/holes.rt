@@ -51,8 +51,7 @@ impl<
     V: Fn(Global, &mut Tokens<'_, '_>, Form, usize, Inner) -> Result<Read, Fault>,
     B: Fn(Global, &mut Tokens<'_, '_>, Form, usize) -> Result<Body, Fault>,
     G: Fn(Global, &mut Tokens<'_, '_>, Form, usize, Group) -> Result<List<Stmt>, Fault>,
-> Grammar<V, B, G>
-{
+> Grammar<V, B, G> {
     /// Holes and the parts after them, up to the template's end.
     #[tactic(auto, unfolding(qk_reading::specs::Forms::holes_from))]
     fn filled(&self, tokens: &mut Tokens<'_, '_>, first: Text) -> Result<Filled, Fault>

@@ -62,8 +62,7 @@ impl<
     V: Fn(Global, &mut Tokens<'_, '_>, Form, usize, Inner) -> Result<Read, Fault>,
     B: Fn(Global, &mut Tokens<'_, '_>, Form, usize) -> Result<Body, Fault>,
     G: Fn(Global, &mut Tokens<'_, '_>, Form, usize, Group) -> Result<List<Stmt>, Fault>,
-> Grammar<V, B, G>
-{
+> Grammar<V, B, G> {
     /// An attribute behind its `=`.
     fn set(&self, tokens: &mut Tokens<'_, '_>, name: &str) -> Result<Field, Fault>
         requires values { Values self.now.form self.now.room (V.pre self.now.value) (V.post self.now.value) }
@@ -179,7 +178,12 @@ impl<
     }
 
     /// An element behind its attributes, where `/>` doesn't close it.
-    fn open(&self, tokens: &mut Tokens<'_, '_>, tag: &str, attributes: Builder<Field>) -> Result<Expr, Fault>
+    fn open(
+        &self,
+        tokens: &mut Tokens<'_, '_>,
+        tag: &str,
+        attributes: Builder<Field>,
+    ) -> Result<Expr, Fault>
         requires values { Values self.now.form self.now.room (V.pre self.now.value) (V.post self.now.value) }
         ensures { Reads (forms.tagged_by self.now.form self.now.room (nesting self.now.form self.now.room) (chars tag.now) attributes false tokens.old) result tokens.new }
     {

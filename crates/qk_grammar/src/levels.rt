@@ -21,7 +21,12 @@ use qk_token::{Fault, Kind, Level, Tokens, arrow_ahead};
 use std::alloc::{AllocError, Global};
 
 /// An expression and the operands of a level behind it; where there are none the expression alone.
-fn chained(alloc: Global, level: Level, first: Read, more: Builder<Operand>) -> Result<Read, AllocError>
+fn chained(
+    alloc: Global,
+    level: Level,
+    first: Read,
+    more: Builder<Operand>,
+) -> Result<Read, AllocError>
     ensures { IfOk result (λ r. read_of r ≡ parts.chained (level_of level) (read_of first) more) }
 {
     if more.len() == 0 {
@@ -53,7 +58,11 @@ fn later_head(alloc: Global, tokens: &mut Tokens<'_, '_>, room: usize, left: usi
     match arrow_head(alloc, tokens, room) {
         Ok(_) => Fault::Syntax(left),
         Err(Fault::Syntax(other)) => Fault::Syntax(left.min(other)),
-        Err(Fault::TooDeep(other)) => if left <= other { Fault::Syntax(left) } else { Fault::TooDeep(other) },
+        Err(Fault::TooDeep(other)) => if left <= other {
+            Fault::Syntax(left)
+        } else {
+            Fault::TooDeep(other)
+        },
         Err(Fault::Memory) => Fault::Memory,
     }
 }
@@ -72,8 +81,7 @@ impl<
     V: Fn(Global, &mut Tokens<'_, '_>, Form, usize, Inner) -> Result<Read, Fault>,
     B: Fn(Global, &mut Tokens<'_, '_>, Form, usize) -> Result<Body, Fault>,
     G: Fn(Global, &mut Tokens<'_, '_>, Form, usize, Group) -> Result<List<Stmt>, Fault>,
-> Grammar<V, B, G>
-{
+> Grammar<V, B, G> {
     /// An operand behind `!` or `-`.
     fn prefixed(&self, tokens: &mut Tokens<'_, '_>, op: Un) -> Result<Read, Fault>
         requires { Values self.now.form self.now.room (V.pre self.now.value) (V.post self.now.value) }

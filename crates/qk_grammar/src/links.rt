@@ -65,8 +65,7 @@ impl<
     V: Fn(Global, &mut Tokens<'_, '_>, Form, usize, Inner) -> Result<Read, Fault>,
     B: Fn(Global, &mut Tokens<'_, '_>, Form, usize) -> Result<Body, Fault>,
     G: Fn(Global, &mut Tokens<'_, '_>, Form, usize, Group) -> Result<List<Stmt>, Fault>,
-> Grammar<V, B, G>
-{
+> Grammar<V, B, G> {
     /// The postfix form that begins with the sign, where one does.
     fn link_sign(&self, tokens: &mut Tokens<'_, '_>, sign: &str) -> Result<Option<LinkRead>, Fault>
         requires values { Values self.now.form self.now.room (V.pre self.now.value) (V.post self.now.value) }
@@ -118,7 +117,10 @@ impl<
         requires values { Values self.now.form self.now.room (V.pre self.now.value) (V.post self.now.value) }
         ensures { ReadsAs links_of (forms.links self.now.form self.now.room (nesting self.now.form self.now.room) (kind_of found.kind) found.links tokens.old) result tokens.new }
     {
-        let LinksRead { mut links, mut kind } = found;
+        let LinksRead {
+            mut links,
+            mut kind,
+        } = found;
         for _turn in 0..tokens.left() {
             match self.link(tokens)? {
                 Some(one) => {

@@ -37,11 +37,15 @@ impl<
     V: Fn(Global, &mut Tokens<'_, '_>, Form, usize, Inner) -> Result<Read, Fault>,
     B: Fn(Global, &mut Tokens<'_, '_>, Form, usize) -> Result<Body, Fault>,
     G: Fn(Global, &mut Tokens<'_, '_>, Form, usize, Group) -> Result<List<Stmt>, Fault>,
-> Grammar<V, B, G>
-{
+> Grammar<V, B, G> {
     /// Expressions between commas up to that sign, which stays, after those found.
     #[tactic(auto, unfolding(qk_reading::specs::Input::separated_from))]
-    pub fn separated_from(&self, tokens: &mut Tokens<'_, '_>, closing: &[u8], found: Builder<Expr>) -> Result<Args, Fault>
+    pub fn separated_from(
+        &self,
+        tokens: &mut Tokens<'_, '_>,
+        closing: &[u8],
+        found: Builder<Expr>,
+    ) -> Result<Args, Fault>
         requires values { Values self.now.form self.now.room (V.pre self.now.value) (V.post self.now.value) }
         requires ascii { is_ascii closing.now ≡ true }
         ensures { ReadsAs (λ a. (a.items, a.comma)) (input.separated_from (input.Sign closing.now) (forms.nested self.now.form self.now.room (nesting self.now.form self.now.room)) (input.left tokens.old) found tokens.old) result tokens.new }

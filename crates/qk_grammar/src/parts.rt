@@ -65,7 +65,11 @@ pub fn pattern(alloc: Global, tokens: &mut Tokens<'_, '_>, room: usize) -> Resul
 
 /// Patterns between commas up to `)`, which stays.
 #[tactic(auto, unfolding(qk_reading::specs::Input::separated, qk_reading::specs::Input::separated_from))]
-fn separated_patterns(alloc: Global, tokens: &mut Tokens<'_, '_>, room: usize) -> Result<Builder<Pattern>, Fault>
+fn separated_patterns(
+    alloc: Global,
+    tokens: &mut Tokens<'_, '_>,
+    room: usize,
+) -> Result<Builder<Pattern>, Fault>
     ensures { Reads (items_of (input.separated (input.Sign (codes ")")) (spec.pattern room)) tokens.old) result tokens.new }
 {
     let mut found = Builder::new(alloc);
@@ -92,7 +96,11 @@ fn one_parameter(alloc: Global, tokens: &mut Tokens<'_, '_>) -> Result<List<Patt
 
 /// An arrow's parameters: a name alone, or patterns in brackets.
 #[tactic(auto, unfolding(qk_reading::specs::Parts::params))]
-pub fn params(alloc: Global, tokens: &mut Tokens<'_, '_>, room: usize) -> Result<List<Pattern>, Fault>
+pub fn params(
+    alloc: Global,
+    tokens: &mut Tokens<'_, '_>,
+    room: usize,
+) -> Result<List<Pattern>, Fault>
     ensures { Reads (spec.params room tokens.old) result tokens.new }
 {
     if !tokens.eat(b"(") {
@@ -114,7 +122,11 @@ pub struct ArrowHead {
 
 /// The parameters of an arrow and its `=>`.
 #[tactic(auto, unfolding(qk_reading::specs::Parts::arrow_head))]
-pub fn arrow_head(alloc: Global, tokens: &mut Tokens<'_, '_>, room: usize) -> Result<ArrowHead, Fault>
+pub fn arrow_head(
+    alloc: Global,
+    tokens: &mut Tokens<'_, '_>,
+    room: usize,
+) -> Result<ArrowHead, Fault>
     ensures { ReadsAs arrow_head_of (spec.arrow_head room tokens.old) result tokens.new }
 {
     let params = params(alloc, tokens, room)?;
