@@ -1,6 +1,6 @@
 -- A loop that begins behind some items reads the same ones.
-use Rattle.std.proofs.Common.{◌≡◌, refl, ℕ, zero, suc, List, [], ◌∷◌, ◌++◌, Option, Some, None, Result, Ok, Err, append_assoc, ap, ◌∙◌}
-use Rattle.qk_reading.specs.Input.{Input, Outcome, Reader, and_then, many_from, many, left, ◌>>=◌, ◌<$>◌, pure, maybe}
+use Rattle.std.proofs.Common.{◌≡◌, refl, ℕ, zero, suc, List, [], ◌∷◌, ◌++◌, Option, Some, None, Ok, Err, append_assoc, ap, ◌∙◌}
+use Rattle.qk_reading.specs.Input.{Input, Outcome, Reader, and_then, many_from, many, left, pure, maybe}
 
 abbrev behind : {A : Type 0} → List A → Outcome (List A) → Outcome (List A)
 behind front o = and_then o (λ xs. pure (front ++ xs))

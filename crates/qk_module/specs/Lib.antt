@@ -1,1 +1,1 @@
-pub mod Scope
+pub mod ScopeParts

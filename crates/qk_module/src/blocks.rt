@@ -19,8 +19,7 @@ impl<
     V: Fn(Global, &mut Tokens<'_, '_>, Form, usize, Inner) -> Result<Read, Fault>,
     B: Fn(Global, &mut Tokens<'_, '_>, Form, usize) -> Result<Body, Fault>,
     G: Fn(Global, &mut Tokens<'_, '_>, Form, usize, Group) -> Result<List<Stmt>, Fault>,
-> Statements<V, B, G>
-{
+> Statements<V, B, G> {
     /// Statements up to `}`, which stays.
     #[tactic(auto, unfolding(qk_reading::specs::Statements::statements_from))]
     fn statements(&self, tokens: &mut Tokens<'_, '_>, looped: bool) -> Result<List<Stmt>, Fault>

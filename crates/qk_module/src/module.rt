@@ -45,7 +45,11 @@ fn import_line(alloc: Global, tokens: &mut Tokens<'_, '_>, room: usize) -> Resul
 
 /// An import, where one comes.
 #[tactic(auto, unfolding(qk_reading::specs::Reader::next_import))]
-fn next_import(alloc: Global, tokens: &mut Tokens<'_, '_>, room: usize) -> Result<Option<Import>, Fault>
+fn next_import(
+    alloc: Global,
+    tokens: &mut Tokens<'_, '_>,
+    room: usize,
+) -> Result<Option<Import>, Fault>
     ensures { Reads (spec.next_import room tokens.old) result tokens.new }
 {
     if tokens.sees_word(b"import") {
@@ -98,7 +102,12 @@ fn item(alloc: Global, tokens: &mut Tokens<'_, '_>, form: Form, room: usize) -> 
 
 /// A constant, where the tokens go on.
 #[tactic(auto, unfolding(qk_reading::specs::Reader::next_item))]
-fn next_item(alloc: Global, tokens: &mut Tokens<'_, '_>, form: Form, room: usize) -> Result<Option<Item>, Fault>
+fn next_item(
+    alloc: Global,
+    tokens: &mut Tokens<'_, '_>,
+    form: Form,
+    room: usize,
+) -> Result<Option<Item>, Fault>
     ensures { Reads (spec.next_item form room tokens.old) result tokens.new }
 {
     match tokens.peek() {
@@ -109,7 +118,12 @@ fn next_item(alloc: Global, tokens: &mut Tokens<'_, '_>, form: Form, room: usize
 
 /// The constants, up to the end.
 #[tactic(auto, unfolding(qk_reading::specs::Input::many, qk_reading::specs::Input::many_from))]
-fn items(alloc: Global, tokens: &mut Tokens<'_, '_>, form: Form, room: usize) -> Result<List<Item>, Fault>
+fn items(
+    alloc: Global,
+    tokens: &mut Tokens<'_, '_>,
+    form: Form,
+    room: usize,
+) -> Result<List<Item>, Fault>
     ensures { Reads (input.many (spec.next_item form room) tokens.old) result tokens.new }
 {
     let mut found = Builder::new(alloc);
@@ -122,8 +136,14 @@ fn items(alloc: Global, tokens: &mut Tokens<'_, '_>, form: Form, room: usize) ->
     Ok(found.into_list(alloc)?)
 }
 
+/// The imports, and the constants behind them.
 #[tactic(auto, unfolding(qk_reading::specs::Reader::module_of))]
-fn module_of(alloc: Global, tokens: &mut Tokens<'_, '_>, form: Form, room: usize) -> Result<Module, Fault>
+fn module_of(
+    alloc: Global,
+    tokens: &mut Tokens<'_, '_>,
+    form: Form,
+    room: usize,
+) -> Result<Module, Fault>
     ensures { Reads (spec.module_of form room tokens.old) result tokens.new }
 {
     let imports = imports(alloc, tokens, room)?;
@@ -135,7 +155,12 @@ fn module_of(alloc: Global, tokens: &mut Tokens<'_, '_>, form: Form, room: usize
 ///
 /// # Errors
 /// `Fault::Syntax` and `Fault::TooDeep` exactly where the reader answers them, `Fault::Memory` for want of memory alone.
-pub fn read_module(alloc: Global, form: Form, room: usize, tokens: &[Token<'_>]) -> Result<Module, Fault>
+pub fn read_module(
+    alloc: Global,
+    form: Form,
+    room: usize,
+    tokens: &[Token<'_>],
+) -> Result<Module, Fault>
     requires few { length tokens.now < 2 ^ 32 }
     requires fit { AllFit tokens.now }
     ensures read { IfOk result (λ m. spec.read_module form room (tokens_of tokens.now) ≡ Ok m) }

@@ -14,7 +14,13 @@ use std::alloc::Global;
 
 /// An expression, an operand or an element.
 #[cycle(nested)]
-pub fn value(alloc: Global, tokens: &mut Tokens<'_, '_>, form: Form, room: usize, which: Inner) -> Result<Read, Fault>
+pub fn value(
+    alloc: Global,
+    tokens: &mut Tokens<'_, '_>,
+    form: Form,
+    room: usize,
+    which: Inner,
+) -> Result<Read, Fault>
     ensures { ReadsAs read_of ((nesting form room).value (inner_of which) tokens.old) result tokens.new }
 {
     if room == 0 {
@@ -33,7 +39,12 @@ pub fn value(alloc: Global, tokens: &mut Tokens<'_, '_>, form: Form, room: usize
 
 /// An arrow's body.
 #[cycle(nested)]
-pub fn body(alloc: Global, tokens: &mut Tokens<'_, '_>, form: Form, room: usize) -> Result<Body, Fault>
+pub fn body(
+    alloc: Global,
+    tokens: &mut Tokens<'_, '_>,
+    form: Form,
+    room: usize,
+) -> Result<Body, Fault>
     ensures { Reads ((nesting form room).body tokens.old) result tokens.new }
 {
     if room == 0 {
@@ -52,7 +63,13 @@ pub fn body(alloc: Global, tokens: &mut Tokens<'_, '_>, form: Form, room: usize)
 
 /// A block's statements, or those of a part that is none.
 #[cycle(nested)]
-pub fn group(alloc: Global, tokens: &mut Tokens<'_, '_>, form: Form, room: usize, which: Group) -> Result<List<Stmt>, Fault>
+pub fn group(
+    alloc: Global,
+    tokens: &mut Tokens<'_, '_>,
+    form: Form,
+    room: usize,
+    which: Group,
+) -> Result<List<Stmt>, Fault>
     ensures { Reads ((nesting form room).group (group_of which) tokens.old) result tokens.new }
 {
     if room == 0 {

@@ -4,7 +4,7 @@ ghost use Rattle.std.specs.Prelude.{◌≡◌, IfOk};
 ghost use Rattle.qk_reading.specs.Input as input;
 ghost use Rattle.qk_reading.specs.Parts as spec;
 ghost use Rattle.qk_token.specs.Reads.{Reads};
-ghost use Rattle.qk_module.specs.Scope.{scope_names, scope_word, scope_end};
+ghost use Rattle.qk_module.specs.ScopeParts.{scope_names, scope_word, scope_end};
 
 use qk_ast::{Expr, Link, Pattern, Stmt};
 use qk_grammar::{enter, name};
@@ -26,7 +26,11 @@ fn comma_name(alloc: Global, tokens: &mut Tokens<'_, '_>) -> Result<Option<Text>
 
 /// These names, and those that follow with a comma before each.
 #[tactic(auto, unfolding(qk_reading::specs::Input::many_from))]
-fn more_names(alloc: Global, tokens: &mut Tokens<'_, '_>, mut found: Builder<Text>) -> Result<List<Text>, Fault>
+fn more_names(
+    alloc: Global,
+    tokens: &mut Tokens<'_, '_>,
+    mut found: Builder<Text>,
+) -> Result<List<Text>, Fault>
     ensures { Reads (input.many_from spec.comma_name (input.left tokens.old) found tokens.old) result tokens.new }
 {
     for _turn in 0..tokens.left() {
@@ -49,7 +53,7 @@ fn scope_call(alloc: Global) -> Result<Expr, AllocError>
 }
 
 /// A scope's names, behind the `[` that comes.
-#[tactic(auto, unfolding(crate::specs::Scope::scope_names), using(crate::proofs::Many::many_behind))]
+#[tactic(auto, unfolding(crate::specs::ScopeParts::scope_names), using(crate::proofs::Many::many_behind))]
 fn scope_names(alloc: Global, tokens: &mut Tokens<'_, '_>, room: usize) -> Result<List<Text>, Fault>
     ensures { Reads (scope_names room tokens.old) result tokens.new }
 {
@@ -61,7 +65,7 @@ fn scope_names(alloc: Global, tokens: &mut Tokens<'_, '_>, room: usize) -> Resul
 }
 
 /// The name of what a scope calls.
-#[tactic(auto, unfolding(crate::specs::Scope::scope_word))]
+#[tactic(auto, unfolding(crate::specs::ScopeParts::scope_word))]
 fn scope_word(tokens: &mut Tokens<'_, '_>) -> Result<(), Fault>
     ensures { Reads (scope_word tokens.old) result tokens.new }
 {
@@ -69,7 +73,7 @@ fn scope_word(tokens: &mut Tokens<'_, '_>) -> Result<(), Fault>
 }
 
 /// What follows a scope's names.
-#[tactic(auto, unfolding(crate::specs::Scope::scope_end))]
+#[tactic(auto, unfolding(crate::specs::ScopeParts::scope_end))]
 fn scope_end(tokens: &mut Tokens<'_, '_>) -> Result<(), Fault>
     ensures { Reads (scope_end tokens.old) result tokens.new }
 {
@@ -82,7 +86,7 @@ fn scope_end(tokens: &mut Tokens<'_, '_>) -> Result<(), Fault>
 }
 
 /// [a, b] = useLexicalScope();
-#[tactic(auto, using(crate::proofs::Parts::scope_parts))]
+#[tactic(auto, using(crate::proofs::TwoParts::scope_parts))]
 pub fn scope(alloc: Global, tokens: &mut Tokens<'_, '_>, room: usize) -> Result<Stmt, Fault>
     ensures { Reads (spec.scope room tokens.old) result tokens.new }
 {

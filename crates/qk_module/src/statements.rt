@@ -19,8 +19,7 @@ impl<
     V: Fn(Global, &mut Tokens<'_, '_>, Form, usize, Inner) -> Result<Read, Fault>,
     B: Fn(Global, &mut Tokens<'_, '_>, Form, usize) -> Result<Body, Fault>,
     G: Fn(Global, &mut Tokens<'_, '_>, Form, usize, Group) -> Result<List<Stmt>, Fault>,
-> Statements<V, B, G>
-{
+> Statements<V, B, G> {
     /// What `if`, `else`, `while` and `for` hold.
     #[tactic(auto, unfolding(qk_reading::specs::Statements::held))]
     pub fn held(&self, tokens: &mut Tokens<'_, '_>, looped: bool) -> Result<List<Stmt>, Fault>
@@ -105,7 +104,14 @@ impl<
     }
 
     /// A choice whose `else` was met, or wasn't.
-    fn chosen(&self, tokens: &mut Tokens<'_, '_>, looped: bool, test: Expr, held: List<Stmt>, other: bool) -> Result<Stmt, Fault>
+    fn chosen(
+        &self,
+        tokens: &mut Tokens<'_, '_>,
+        looped: bool,
+        test: Expr,
+        held: List<Stmt>,
+        other: bool,
+    ) -> Result<Stmt, Fault>
         requires { Groups self.now.forms.form self.now.forms.room (G.pre self.now.forms.group) (G.post self.now.forms.group) }
         ensures { Reads (spec.else_by self.now.forms.form self.now.forms.room (nesting self.now.forms.form self.now.forms.room) looped test held other tokens.old) result tokens.new }
     {
@@ -187,7 +193,13 @@ impl<
     }
 
     /// A statement that begins with that word, or with an expression that does.
-    fn word_statement(&self, tokens: &mut Tokens<'_, '_>, looped: bool, first: bool, word: &str) -> Result<Stmt, Fault>
+    fn word_statement(
+        &self,
+        tokens: &mut Tokens<'_, '_>,
+        looped: bool,
+        first: bool,
+        word: &str,
+    ) -> Result<Stmt, Fault>
         requires values { Values self.now.forms.form self.now.forms.room (V.pre self.now.forms.value) (V.post self.now.forms.value) }
         requires bodies { Bodies self.now.forms.form self.now.forms.room (B.pre self.now.forms.body) (B.post self.now.forms.body) }
         requires groups { Groups self.now.forms.form self.now.forms.room (G.pre self.now.forms.group) (G.post self.now.forms.group) }
@@ -229,7 +241,12 @@ impl<
 
     /// A statement, in a loop or not, and first in its block or not.
     #[tactic(auto, unfolding(qk_reading::specs::Statements::statement))]
-    pub fn statement(&self, tokens: &mut Tokens<'_, '_>, looped: bool, first: bool) -> Result<Stmt, Fault>
+    pub fn statement(
+        &self,
+        tokens: &mut Tokens<'_, '_>,
+        looped: bool,
+        first: bool,
+    ) -> Result<Stmt, Fault>
         requires values { Values self.now.forms.form self.now.forms.room (V.pre self.now.forms.value) (V.post self.now.forms.value) }
         requires bodies { Bodies self.now.forms.form self.now.forms.room (B.pre self.now.forms.body) (B.post self.now.forms.body) }
         requires groups { Groups self.now.forms.form self.now.forms.room (G.pre self.now.forms.group) (G.post self.now.forms.group) }

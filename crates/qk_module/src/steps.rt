@@ -22,10 +22,14 @@ impl<
     V: Fn(Global, &mut Tokens<'_, '_>, Form, usize, Inner) -> Result<Read, Fault>,
     B: Fn(Global, &mut Tokens<'_, '_>, Form, usize) -> Result<Body, Fault>,
     G: Fn(Global, &mut Tokens<'_, '_>, Form, usize, Group) -> Result<List<Stmt>, Fault>,
-> Statements<V, B, G>
-{
+> Statements<V, B, G> {
     /// What a target becomes by what follows it.
-    fn assigned(&self, tokens: &mut Tokens<'_, '_>, target: Expr, op: Option<AssignOp>) -> Result<Expr, Fault>
+    fn assigned(
+        &self,
+        tokens: &mut Tokens<'_, '_>,
+        target: Expr,
+        op: Option<AssignOp>,
+    ) -> Result<Expr, Fault>
         requires values { Values self.now.forms.form self.now.forms.room (V.pre self.now.forms.value) (V.post self.now.forms.value) }
         requires bodies { Bodies self.now.forms.form self.now.forms.room (B.pre self.now.forms.body) (B.post self.now.forms.body) }
         ensures { Reads (spec.assign_by self.now.forms.form self.now.forms.room (nesting self.now.forms.form self.now.forms.room) target op tokens.old) result tokens.new }

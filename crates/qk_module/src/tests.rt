@@ -131,10 +131,34 @@ fn refuses(rt: &impl Abort, alloc: Global, room: usize, text: &str, fault: Fault
 fn faults(rt: HostRuntime) -> Result<(), Fail> {
     let alloc = rt.alloc();
     refuses(&rt, alloc, 32, "const a = 1", Fault::Syntax(0));
-    refuses(&rt, alloc, 32, "const a = () => { break; };", Fault::Syntax(4));
-    refuses(&rt, alloc, 32, "const a = () => { if (b) let c = 1; };", Fault::Syntax(7));
-    refuses(&rt, alloc, 32, "const a = () => { const [b] = useLexicalScope(); };", Fault::Syntax(10));
-    refuses(&rt, alloc, 2, "const a = () => { if (b) { } };", Fault::TooDeep(8));
+    refuses(
+        &rt,
+        alloc,
+        32,
+        "const a = () => { break; };",
+        Fault::Syntax(4),
+    );
+    refuses(
+        &rt,
+        alloc,
+        32,
+        "const a = () => { if (b) let c = 1; };",
+        Fault::Syntax(7),
+    );
+    refuses(
+        &rt,
+        alloc,
+        32,
+        "const a = () => { const [b] = useLexicalScope(); };",
+        Fault::Syntax(10),
+    );
+    refuses(
+        &rt,
+        alloc,
+        2,
+        "const a = () => { if (b) { } };",
+        Fault::TooDeep(8),
+    );
     refuses(&rt, alloc, 0, "import { a } from \"m\";", Fault::TooDeep(6));
     Ok(())
 }

@@ -1,6 +1,6 @@
-use Rattle.std.proofs.Common.{◌≡◌, false, sym, ◌∙◌, refl, codes, rules, arith}
+use Rattle.std.proofs.Common.{true, [], refl, rules, arith}
 use Rattle.std.proofs.lemmas.Grind.{common_steps}
-use Rattle.qk_reading.specs.Input.{Sign, sees}
+use Rattle.qk_reading.specs.Input.{left}
 use Rattle.qk_reading.specs.Reader.{nesting}
 use Rattle.qk_reading.specs.Statements.{statements_from}
 use Rattle.qk_grammar.proofs.Turns.{one_more}
@@ -10,14 +10,14 @@ pub loop-turn-preserved : goal.loop-turn-preserved
 unfolding statements_from
 loop-turn-preserved g c =
     let forms = c.args.self.now.forms in
-    let e = one_more (λ n. statements_from forms.form forms.room (nesting forms.form forms.room) c.args.looped c.loop-turn.first n c.loop-turn.found c.loop-turn.tokens) c.left-turn-end.result c.loop-turn._turn c.loop-turn-test.true c.loop-turn.invariant in
-    let goes_on : sees (Sign (codes "}")) c.loop-turn.tokens ≡ false = sym c.sees.ensures ∙ c.if-sees.false in
-    rw (e, goes_on, c.in_ok-statement.ensures, c.in_ok-push.ensures.appended) refl
+    let begun = statements_from forms.form forms.room (nesting forms.form forms.room) c.args.looped true (left c.args.tokens.now) [] c.args.tokens.now in
+    let e = one_more {x = begun} (λ n. statements_from forms.form forms.room (nesting forms.form forms.room) c.args.looped c.loop-turn.first n c.loop-turn.found c.loop-turn.tokens) c.left-turn-end.result c.loop-turn._turn c.loop-turn-test.true c.loop-turn.invariant in
+    rw (e, ← c.sees.ensures, c.if-sees.false, c.in_ok-statement.ensures, c.in_ok-push.ensures.appended) refl
 
 pub returns-in_err-statement : goal.returns-in_err-statement
 unfolding statements_from
 returns-in_err-statement g c =
     let forms = c.args.self.now.forms in
-    let e = one_more (λ n. statements_from forms.form forms.room (nesting forms.form forms.room) c.args.looped c.loop-turn.first n c.loop-turn.found c.loop-turn.tokens) c.left-turn-end.result c.loop-turn._turn c.loop-turn-test.true c.loop-turn.invariant in
-    let goes_on : sees (Sign (codes "}")) c.loop-turn.tokens ≡ false = sym c.sees.ensures ∙ c.if-sees.false in
-    rw (e, goes_on) (first_of (search rules, grind (arith, common_steps)))
+    let begun = statements_from forms.form forms.room (nesting forms.form forms.room) c.args.looped true (left c.args.tokens.now) [] c.args.tokens.now in
+    let e = one_more {x = begun} (λ n. statements_from forms.form forms.room (nesting forms.form forms.room) c.args.looped c.loop-turn.first n c.loop-turn.found c.loop-turn.tokens) c.left-turn-end.result c.loop-turn._turn c.loop-turn-test.true c.loop-turn.invariant in
+    rw (e, ← c.sees.ensures, c.if-sees.false) (first_of (search rules, grind (arith, common_steps)))

@@ -1,10 +1,10 @@
 -- A scope's statement is read in its two parts.
-use Rattle.std.proofs.Common.{◌≡◌, refl, ℕ, List, Result, Ok, Err}
+use Rattle.std.proofs.Common.{◌≡◌, refl, ℕ, Ok, Err}
 use Rattle.qk_ast.specs.declared.Stmt.TheVariants as s
 use Rattle.qk_ast.specs.declared.Pattern.TheVariants as p
 use Rattle.qk_reading.specs.Input.{Input, Outcome, Reader, and_then, ◌>>◌, pure}
 use Rattle.qk_reading.specs.Parts.{scope, scope_call}
-use Rattle.qk_module.specs.Scope.{scope_names, scope_word, scope_end}
+use Rattle.qk_module.specs.ScopeParts.{scope_names, scope_word, scope_end}
 
 then_then : {A B C : Type 0} (o : Outcome A) (f : A → Reader B) (g : B → Reader C) → and_then (and_then o f) g ≡ and_then o (λ x i. and_then (f x i) g)
 then_then (Ok p) f g = refl
