@@ -15,4 +15,6 @@ mod words;
 pub use command::run;
 
 #[cfg(test)]
+mod shape_tests;
+#[cfg(test)]
 mod tests;

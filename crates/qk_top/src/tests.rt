@@ -254,3 +254,51 @@ fn a_read_that_fails_is_told(rt: HostRuntime) -> Result<(), Fail> {
     assert_eq!(rt; out.bytes(), b"store failed\n".as_slice());
     Ok(())
 }
+
+/// What `replay s.txt` prints where `root.jsx` has these bytes and the script is empty.
+fn refusal(alloc: Global, root: &[u8]) -> Result<(MemSink, u8), AllocError> {
+    let mut bytes = Vec::new(alloc);
+    bytes.extend_from_slice(root)?;
+    let mut files = Vec::new(alloc);
+    files.push((String::from_str(alloc, "root.jsx")?, bytes))?;
+    files.push(file(alloc, "s.txt", &[])?)?;
+    let mut store = MemStore::new(alloc, files, Vec::new(alloc));
+    let mut out = MemSink::new(alloc, Vec::new(alloc));
+    let status = replay(alloc, &mut store, &mut out)?;
+    Ok((out, status))
+}
+
+#[test]
+fn tells_why_a_source_is_refused(rt: HostRuntime) -> Result<(), Fail> {
+    let alloc = rt.alloc();
+    for (root, prints) in [
+        (b"const a = ;".as_slice(), "refused Syntax root 1:11\n"),
+        (b"const a = 1".as_slice(), "refused Syntax root 1:12\n"),
+        (b"const a = 1;\n\nconst b = 08;\n".as_slice(), "refused Lexical root 3:11\n"),
+        (b"// \xc3\xa4\r\n\t\xc3\xa4 =".as_slice(), "refused Syntax root 2:2\n"),
+        (b"const a = 1;\n".as_slice(), "refused NotBuilt root -\n"),
+        (b"const a = \"\xff\";".as_slice(), "refused NotBuilt root -\n"),
+        (b"const a = ((((((((((((((((((((((((((((((((1)))))))))))))))))))))))))))))))));".as_slice(), "refused NotBuilt root -\n"),
+        (b"const a = (((((((((((((((((((((((((((((((((1))))))))))))))))))))))))))))))))));".as_slice(), "refused TooDeep root 1:43\n"),
+    ] {
+        let (out, status) = refusal(alloc, root)?;
+        assert_eq!(rt; out.bytes(), prints.as_bytes(), "{prints}");
+        assert_eq!(rt; status, 2, "{prints}");
+    }
+    Ok(())
+}
+
+#[test]
+fn tries_the_length_of_a_source(rt: HostRuntime) -> Result<(), Fail> {
+    let alloc = rt.alloc();
+    let mut root = Vec::new(alloc);
+    for _ in 0..1_048_576usize {
+        root.push(b' ')?;
+    }
+    let (out, status) = refusal(alloc, root.as_slice())?;
+    assert_eq!(rt; (out.bytes(), status), (b"refused NotBuilt root -\n".as_slice(), 2));
+    root.push(b' ')?;
+    let (out, status) = refusal(alloc, root.as_slice())?;
+    assert_eq!(rt; (out.bytes(), status), (b"refused TooLong root 1:1\n".as_slice(), 2));
+    Ok(())
+}
