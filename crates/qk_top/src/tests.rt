@@ -278,8 +278,8 @@ fn tells_why_a_source_is_refused(rt: HostRuntime) -> Result<(), Fail> {
         (b"// \xc3\xa4\r\n\t\xc3\xa4 =".as_slice(), "refused Syntax root 2:2\n"),
         (b"const a = 1;\n".as_slice(), "refused NotBuilt root -\n"),
         (b"const a = \"\xff\";".as_slice(), "refused NotBuilt root -\n"),
-        (b"const a = ((((((((((((((((((((((((((((((((1)))))))))))))))))))))))))))))))));".as_slice(), "refused NotBuilt root -\n"),
-        (b"const a = (((((((((((((((((((((((((((((((((1))))))))))))))))))))))))))))))))));".as_slice(), "refused TooDeep root 1:43\n"),
+        (b"const a = ((((((((((((((((((((((((((((((((1))))))))))))))))))))))))))))))));".as_slice(), "refused NotBuilt root -\n"),
+        (b"const a = (((((((((((((((((((((((((((((((((1)))))))))))))))))))))))))))))))));".as_slice(), "refused TooDeep root 1:43\n"),
     ] {
         let (out, status) = refusal(alloc, root)?;
         assert_eq!(rt; out.bytes(), prints.as_bytes(), "{prints}");

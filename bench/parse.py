@@ -1,0 +1,98 @@
+#!/usr/bin/env python3
+"""Times reading and parsing real module text of 64 KiB, 256 KiB and 1 MiB, in one run beside esbuild on the same text, and prints a table.
+
+ours      `replay` of an empty script: the whole process up to the parsed module, which is then refused as not yet played
+esbuild   `esbuild --jsx=preserve --loader:.jsx=jsx`, one thread, its output thrown away: it also prints the module
+Each figure is the best of many runs of the whole process. `growth` is the time of the row over that of the row before, less the start of the
+process (an empty module); 4.0 is linear. `memory` is the greatest resident size less that of an empty module, in bytes a byte of text."""
+import os, shutil, subprocess, tempfile, time
+
+top = os.path.dirname(os.path.dirname(os.path.abspath(__file__)))
+program = os.path.join(top, "crates", "qwk", "out", "qwk")
+if not os.access(program, os.X_OK):
+    subprocess.run([os.path.join(top, "qwk")], stdout=subprocess.DEVNULL)
+esbuild = shutil.which("esbuild")
+
+IMPORT = 'import { component$, useComputed$, useSignal, useStore } from "@builder.io/qwik";\n'
+PAGE = """
+export const AppNN = component$(() => {
+  const draft = useSignal("");
+  const st = useStore({ items: [], next: 1 });
+  const left = useComputed$(() => st.items.filter((t) => !t.done).length);
+  return (
+    <main class="todo">
+      <input id="in" value={draft.value} onInput$={(e, el) => { draft.value = el.value; }} />
+      <button id="add" onClick$={() => {
+        if (draft.value === "") { return; }
+        st.items.push({ id: st.next, text: draft.value, done: false });
+        st.next++;
+        draft.value = "";
+      }}>Add</button>
+      <ul>{st.items.map((t) => <ItemNN key={t.id} todo={t} />)}</ul>
+      <p>{left.value} left</p>
+    </main>
+  );
+});
+
+export const ItemNN = component$((props) => (
+  <li>
+    <input id={`i${props.todo.id}`} type="checkbox" checked={props.todo.done}
+      onClick$={() => { props.todo.done = !props.todo.done; }} />
+    {props.todo.text}
+  </li>
+));
+"""
+
+
+def module(size):
+    """Pages with new names, up to that many bytes."""
+    parts, length, number = [IMPORT], len(IMPORT), 0
+    while length + len(PAGE) + 8 <= size:
+        page = PAGE.replace("NN", str(number))
+        parts.append(page)
+        length += len(page)
+        number += 1
+    return "".join(parts)
+
+
+def run(command, folder):
+    """The seconds of a run, and its greatest resident size in KiB."""
+    begin = time.perf_counter()
+    child = subprocess.Popen(command, cwd=folder, stdout=subprocess.DEVNULL, stderr=subprocess.DEVNULL,
+                             env={**os.environ, "GOMAXPROCS": "1"})
+    _, _, used = os.wait4(child.pid, 0)
+    child.returncode = 0
+    return time.perf_counter() - begin, used.ru_maxrss
+
+
+def best(command, folder, runs=20):
+    results = [run(command, folder) for _ in range(runs)]
+    return min(r[0] for r in results) * 1000, min(r[1] for r in results)
+
+
+OURS = [program, "replay", "s"]
+THEIRS = [esbuild, "--jsx=preserve", "--loader:.jsx=jsx", "root.jsx"] if esbuild else None
+
+with tempfile.TemporaryDirectory() as folder:
+    def write(name, text):
+        with open(os.path.join(folder, name), "w") as out:
+            out.write(text)
+
+    write("s", "")
+    write("root.jsx", "")
+    start, bare = best(OURS, folder)
+    print(f"start of our process, an empty module: {start:.2f} ms")
+    print("| KiB | ours, ms | MB/s | growth | memory | esbuild, ms | MB/s |")
+    print("|---|---|---|---|---|---|---|")
+    before = None
+    for kib in (64, 256, 1024):
+        text = module(kib * 1024)
+        write("root.jsx", text)
+        whole, size = best(OURS, folder)
+        work = whole - start
+        growth = "" if before is None else f"{work / before:.2f}"
+        memory = (size - bare) * 1024 / len(text)
+        theirs = best(THEIRS, folder)[0] if THEIRS else None
+        speed = lambda ms: f"{len(text) / ms / 1000:.1f}"
+        print(f"| {kib} | {whole:.2f} | {speed(whole)} | {growth} | {memory:.0f} | " + (f"{theirs:.2f} | {speed(theirs)} |" if theirs else "- | - |"))
+        before = work
