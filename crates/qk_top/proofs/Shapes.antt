@@ -83,11 +83,11 @@ counter_from tag id up initial shows = record { tag = tag; attributes = id_among
 
 alike : (tag : Text) (initial : ℤ) (shows : Bool) {attributes : List First_attribute} → Listing attributes
     → Alike (counter_from tag (id_of attributes) (listener attributes) initial shows) (record { tag = tag; attributes = attributes; initial = initial; shows = shows })
-alike tag initial shows nothing = record { hear = λ id. refl; show = λ n. refl; start = refl }
-alike tag initial shows (id_only w) = record { hear = λ id. refl; show = λ n. refl; start = refl }
-alike tag initial shows click_only = record { hear = λ id. refl; show = λ n. refl; start = refl }
-alike tag initial shows (id_click w) = record { hear = λ id. refl; show = λ n. refl; start = refl }
-alike tag initial shows (click_id w) = record { hear = λ id. refl; show = λ n. refl; start = refl }
+alike tag initial shows nothing = record { hear = λ e. refl; show = λ n. refl; start = refl }
+alike tag initial shows (id_only w) = record { hear = λ e. refl; show = λ n. refl; start = refl }
+alike tag initial shows click_only = record { hear = λ e. refl; show = λ n. refl; start = refl }
+alike tag initial shows (id_click w) = record { hear = λ e. refl; show = λ n. refl; start = refl }
+alike tag initial shows (click_id w) = record { hear = λ e. refl; show = λ n. refl; start = refl }
 
 kept_counter : (kept : Kept) (tag : Text) (id : Option Text) (up : Option Bool) (initial : ℤ) (shows : Bool) → kept.tag.now ≡ tag → option_copied kept.id ≡ id → kept.counts_up ≡ up → kept.initial ≡ initial → kept.shows ≡ shows
     → counter_in kept ≡ counter_from tag id up initial shows
