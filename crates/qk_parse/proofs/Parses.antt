@@ -1,5 +1,5 @@
 -- What the parser answers, from what the lexer and the reader answer. The bytes are UTF-8, and the tokens are those of their characters.
-use Rattle.std.specs.Prelude.{◌≡◌, ◌≢◌, refl, ℕ, suc, ◌≤◌, ◌<◌, List, [], ◌∷◌, length, chars, Result, Ok, Err, IsTrue}
+use Rattle.std.specs.Prelude.{◌≡◌, ◌≢◌, refl, ℕ, suc, ◌≤◌, ◌<◌, List, [], ◌∷◌, length, chars, Ok, Err, IsTrue}
 use Rattle.std.specs.Str.{IsUtf8, encode_utf8_all, all_scalars}
 use mathlib.Core.Path.{sym, ◌∙◌, ap, subst}
 use native.Mathlib.Omega.{arith}

@@ -109,7 +109,12 @@ pub fn parse_module(alloc: Global, text: &str, form: Form) -> Result<Module, Par
 }
 
 /// The module that the tokens of the text derive.
-fn parse_lexed(alloc: Global, text: &str, form: Form, lexed: &Lexed<'_>) -> Result<Module, ParseFault>
+fn parse_lexed(
+    alloc: Global,
+    text: &str,
+    form: Form,
+    lexed: &Lexed<'_>,
+) -> Result<Module, ParseFault>
     requires short { length text.now ≤ definition.longest form }
     requires lexes { Lexes (chars text.now) lexed.now }
     ensures derived { IfOk result (λ m. definition.Derives form text.now m) }

@@ -1,5 +1,5 @@
 -- A text has no more tokens than characters, and no more characters than bytes.
-use Rattle.std.specs.Prelude.{◌≡◌, refl, ℕ, ◌+◌, ◌≤◌, ◌<◌, Bool, true, false, not, ◌&&◌, ◌==◌, List, [], ◌∷◌, ◌++◌, length, Option, Some, None, codes, IsTrue}
+use Rattle.std.specs.Prelude.{◌≡◌, refl, ◌≤◌, ◌<◌, Bool, true, false, not, ◌&&◌, ◌==◌, List, [], ◌∷◌, ◌++◌, length, Option, Some, None, codes}
 use Rattle.std.specs.Str.{encode_utf8_all}
 use Rattle.std.specs.Char.{encode_utf8}
 use mathlib.Core.Path.{sym, ◌∙◌, ap, subst}
@@ -8,8 +8,8 @@ use Rattle.std.proofs.Common.{length-append}
 use Rattle.std.proofs.lemmas.Bool.{false≢true}
 use Rattle.std.proofs.lemmas.Str.{length-encode, len_utf8_bounds}
 use Rattle.qk_ast.specs.Characters.{Characters, same, is_one_of}
-use Rattle.qk_ast.specs.Tokens.{is_word, is_int, is_attribute_name, Edge, Token, Name, Reserved, Int, Text, Attribute, Template, Punct, Begin, JsxText, Backquote, Hole, Piece, Blank, Around, Braces, In_hole, In_tag, In_end, Children, after, piece_spelling, pieces_spelling, closing, opening, spelling, blank_spelling, gap_spelling, Written, End, Then, written, tokens_of, stands, Tokens, reserved_words, code_signs, tag_signs, child_signs, begin_signs, is_sign, is_code_sign, is_code_token, is_tag_token, is_end_token, is_child_token, is_token}
-use Rattle.qk_ast.proofs.FrontToken.{left, right}
+use Rattle.qk_ast.specs.Tokens.{is_word, is_int, is_attribute_name, Edge, Token, Name, Reserved, Int, Text, Attribute, Template, Punct, Begin, JsxText, Backquote, Hole, Piece, Blank, Around, Braces, In_hole, In_tag, In_end, Children, after, piece_spelling, pieces_spelling, closing, spelling, blank_spelling, gap_spelling, Written, End, Then, written, tokens_of, stands, Tokens, reserved_words, code_signs, tag_signs, child_signs, begin_signs, is_sign, is_code_token, is_tag_token, is_end_token, is_child_token, is_token}
+use Rattle.qk_ast.proofs.FrontToken.{left}
 
 -- ---- what is spelled before a text is longer than it
 

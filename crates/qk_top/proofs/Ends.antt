@@ -60,7 +60,7 @@ from_memory status (inr (inr (inl e))) = inr (inr (inl e))
 from_memory status (inr (inr (inr e))) = absurd e
 
 outside_comes : {words : List Text} {told : Files} (status : ℕ) → IsOneOf status (6 ∷ 7 ∷ 8 ∷ []) → Comes words told status
-outside_comes status h = record { accepted = λ m events a. inr h; application = λ kind r. inr h; script = λ kind r. inr h }
+outside_comes status h = record { accepted = λ m events a. inr h; application = λ kind what r. inr h; script = λ kind r. inr h }
 
 memory_complete : (between after : Option Text) (f g h status : ℕ) → PutsLastLine Memory between after g h status → g ≡ f → ¬ Rose f h → (status ≡ 0) ⊎ (status ≡ 8)
 memory_complete between after f g h status (whole e put kept) same none = inr e

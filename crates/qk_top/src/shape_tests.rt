@@ -110,17 +110,11 @@ fn tries_the_import(rt: HostRuntime) -> Result<(), Fail> {
     for (import, expected) in [
         ("import{component$}from\"@builder.io/qwik\";", 0),
         ("import { component$, } from \"@builder.io/qwik\" ;", 0),
-        (
-            "import { Slot, component$ } from \"@builder.io/qwik\";",
-            0,
-        ),
+        ("import { Slot, component$ } from \"@builder.io/qwik\";", 0),
         ("", 2),
         ("import { } from \"@builder.io/qwik\";", 2),
         ("import { Slot } from \"@builder.io/qwik\";", 2),
-        (
-            "import { component$ Slot } from \"@builder.io/qwik\";",
-            2,
-        ),
+        ("import { component$ Slot } from \"@builder.io/qwik\";", 2),
         ("import { component$,, } from \"@builder.io/qwik\";", 2),
         (
             "import { component$, component$ } from \"@builder.io/qwik\";",

@@ -274,12 +274,27 @@ fn tells_why_a_source_is_refused(rt: HostRuntime) -> Result<(), Fail> {
     for (root, prints) in [
         (b"const a = ;".as_slice(), "refused Syntax root 1:11\n"),
         (b"const a = 1".as_slice(), "refused Syntax root 1:12\n"),
-        (b"const a = 1;\n\nconst b = 08;\n".as_slice(), "refused Lexical root 3:11\n"),
-        (b"// \xc3\xa4\r\n\t\xc3\xa4 =".as_slice(), "refused Syntax root 2:2\n"),
+        (
+            b"const a = 1;\n\nconst b = 08;\n".as_slice(),
+            "refused Lexical root 3:11\n",
+        ),
+        (
+            b"// \xc3\xa4\r\n\t\xc3\xa4 =".as_slice(),
+            "refused Syntax root 2:2\n",
+        ),
         (b"const a = 1;\n".as_slice(), "refused NotBuilt root -\n"),
-        (b"const a = \"\xff\";".as_slice(), "refused NotBuilt root -\n"),
-        (b"const a = ((((((((((((((((((((((((((((((((1))))))))))))))))))))))))))))))));".as_slice(), "refused NotBuilt root -\n"),
-        (b"const a = (((((((((((((((((((((((((((((((((1)))))))))))))))))))))))))))))))));".as_slice(), "refused TooDeep root 1:43\n"),
+        (
+            b"const a = \"\xff\";".as_slice(),
+            "refused NotBuilt root -\n",
+        ),
+        (
+            b"const a = ((((((((((((((((((((((((((((((((1))))))))))))))))))))))))))))))));".as_slice(),
+            "refused NotBuilt root -\n",
+        ),
+        (
+            b"const a = (((((((((((((((((((((((((((((((((1)))))))))))))))))))))))))))))))));".as_slice(),
+            "refused TooDeep root 1:43\n",
+        ),
     ] {
         let (out, status) = refusal(alloc, root)?;
         assert_eq!(rt; out.bytes(), prints.as_bytes(), "{prints}");
@@ -296,9 +311,15 @@ fn tries_the_length_of_a_source(rt: HostRuntime) -> Result<(), Fail> {
         root.push(b' ')?;
     }
     let (out, status) = refusal(alloc, root.as_slice())?;
-    assert_eq!(rt; (out.bytes(), status), (b"refused NotBuilt root -\n".as_slice(), 2));
+    assert_eq!(rt;
+        (out.bytes(), status),
+        (b"refused NotBuilt root -\n".as_slice(), 2)
+    );
     root.push(b' ')?;
     let (out, status) = refusal(alloc, root.as_slice())?;
-    assert_eq!(rt; (out.bytes(), status), (b"refused TooLong root 1:1\n".as_slice(), 2));
+    assert_eq!(rt;
+        (out.bytes(), status),
+        (b"refused TooLong root 1:1\n".as_slice(), 2)
+    );
     Ok(())
 }
