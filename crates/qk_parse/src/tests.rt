@@ -3,6 +3,7 @@
 use crate::{ParseFault, parse_module};
 use qk_ast::Form;
 use std::alloc::{AllocError, Global};
+use std::process::Abort;
 use std::test::Fail;
 
 /// The answer without its module.
@@ -77,38 +78,172 @@ fn answers_texts(rt: HostRuntime) -> Result<(), Fail> {
     Ok(())
 }
 
-/// The deepest texts that are read, and the first that nest too deep, with the place of the token that does.
+/// A form of nesting: what stands in front, inside and behind; how often it nests in a source and in a built file; and the places of the tokens
+/// with which one more of it nests too deep.
+struct Nesting {
+    front: &'static str,
+    middle: &'static str,
+    back: &'static str,
+    source: usize,
+    source_at: usize,
+    built: usize,
+    built_at: usize,
+}
+
+const NESTINGS: [Nesting; 11] = [
+    Nesting {
+        front: "(",
+        middle: "1",
+        back: ")",
+        source: 32,
+        source_at: 42,
+        built: 1024,
+        built_at: 1034,
+    },
+    Nesting {
+        front: "1 * (",
+        middle: "1",
+        back: ")",
+        source: 32,
+        source_at: 174,
+        built: 1024,
+        built_at: 5134,
+    },
+    Nesting {
+        front: "[",
+        middle: "",
+        back: "]",
+        source: 32,
+        source_at: 42,
+        built: 1024,
+        built_at: 1034,
+    },
+    Nesting {
+        front: "{a: ",
+        middle: "1",
+        back: "}",
+        source: 32,
+        source_at: 138,
+        built: 1024,
+        built_at: 4106,
+    },
+    Nesting {
+        front: "`${",
+        middle: "1",
+        back: "}`",
+        source: 32,
+        source_at: 106,
+        built: 1024,
+        built_at: 3082,
+    },
+    Nesting {
+        front: "!",
+        middle: "1",
+        back: "",
+        source: 32,
+        source_at: 42,
+        built: 1024,
+        built_at: 1034,
+    },
+    Nesting {
+        front: "- ",
+        middle: "1",
+        back: "",
+        source: 32,
+        source_at: 74,
+        built: 1024,
+        built_at: 2058,
+    },
+    Nesting {
+        front: "<a b={",
+        middle: "1",
+        back: "}/>",
+        source: 16,
+        source_at: 106,
+        built: 512,
+        built_at: 3082,
+    },
+    Nesting {
+        front: "<a>",
+        middle: "",
+        back: "</a>",
+        source: 32,
+        source_at: 106,
+        built: 1024,
+        built_at: 3082,
+    },
+    Nesting {
+        front: "b ? ",
+        middle: "1",
+        back: " : 2",
+        source: 32,
+        source_at: 140,
+        built: 1024,
+        built_at: 4108,
+    },
+    Nesting {
+        front: "a => ",
+        middle: "1",
+        back: "",
+        source: 32,
+        source_at: 172,
+        built: 1024,
+        built_at: 5132,
+    },
+];
+
+fn tries(
+    rt: &impl Abort,
+    alloc: Global,
+    nesting: &Nesting,
+    form: Form,
+    most: usize,
+    at: usize,
+) -> Result<(), Fail> {
+    let text = nested(alloc, most, nesting.front, nesting.middle, nesting.back)?;
+    assert_eq!(rt;
+        answer(alloc, text.as_str(), form),
+        Ok(()),
+        "{}",
+        nesting.front
+    );
+    let text = nested(
+        alloc,
+        most.saturating_add(1),
+        nesting.front,
+        nesting.middle,
+        nesting.back,
+    )?;
+    assert_eq!(rt;
+        answer(alloc, text.as_str(), form),
+        Err(ParseFault::TooDeep { at }),
+        "{}",
+        nesting.front
+    );
+    Ok(())
+}
+
+/// The deepest texts that are read, and the first that nest too deep.
 #[test]
 fn nests(rt: HostRuntime) -> Result<(), Fail> {
     let alloc = rt.alloc();
-    for (front, middle, back, most, at) in [
-        ("(", "1", ")", 32, 42),
-        ("[", "", "]", 32, 42),
-        ("{a: ", "1", "}", 32, 138),
-        ("`${", "1", "}`", 32, 106),
-        ("!", "1", "", 32, 42),
-        ("- ", "1", "", 32, 74),
-        ("<a b={", "1", "}/>", 16, 106),
-        ("b ? ", "1", " : 2", 32, 140),
-        ("a => ", "1", "", 32, 172),
-    ] {
-        let text = nested(alloc, most, front, middle, back)?;
-        assert_eq!(rt;
-            answer(alloc, text.as_str(), Form::Source),
-            Ok(()),
-            "{front}"
-        );
-        let text = nested(alloc, most + 1, front, middle, back)?;
-        assert_eq!(rt;
-            answer(alloc, text.as_str(), Form::Source),
-            Err(ParseFault::TooDeep { at }),
-            "{front}"
-        );
-        assert_eq!(rt;
-            answer(alloc, text.as_str(), Form::Built),
-            Ok(()),
-            "{front}"
-        );
+    for nesting in &NESTINGS {
+        tries(
+            &rt,
+            alloc,
+            nesting,
+            Form::Source,
+            nesting.source,
+            nesting.source_at,
+        )?;
+        tries(
+            &rt,
+            alloc,
+            nesting,
+            Form::Built,
+            nesting.built,
+            nesting.built_at,
+        )?;
     }
     Ok(())
 }
