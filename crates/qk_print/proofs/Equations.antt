@@ -1,5 +1,5 @@
 -- The text of each form, over the lists that it holds.
-use Rattle.std.specs.Prelude.{◌≡◌, refl, ℕ, ℤ, Bool, not, List, [], ◌∷◌, ◌++◌, map, Option, Some, None, codes, flat_map}
+use Rattle.std.specs.Prelude.{◌≡◌, refl, ℕ, ℤ, Bool, not, ◌&&◌, List, [], ◌∷◌, ◌++◌, map, Option, Some, None, codes, flat_map}
 use Rattle.std.proofs.Common.{ap, ◌∙◌, sym}
 use Rattle.std.specs.Fmt.{signed_decimal}
 use denote.Hole.Carrier.{hidden, roll}
@@ -21,17 +21,10 @@ use Rattle.qk_ast.specs.declared.Jsx.{Jsx, roll-Jsx}
 use Rattle.qk_ast.specs.declared.Field.{Field}
 use Rattle.qk_ast.specs.declared.Operand.{Operand}
 use Rattle.qk_print.specs.Letters.{Text, between, commas, braced, unless_bare, quoted, parts_and_holes, un_sign, bin_sign, assign_sign, bump_sign}
-use Rattle.qk_print.specs.Shapes.{is_record, is_markup, is_head, is_operand, is_statement, is_right_side}
+use Rattle.qk_print.specs.Lists.{printed_of, keyed_of, operated_of, expressions_text, statements_text, last_is_return}
+use Rattle.qk_ast.specs.declared.Bin.{Bin}
+use Rattle.qk_print.specs.Shapes.{ends_in_return, is_less, is_record, is_markup, is_head, is_operand, is_statement, is_right_side}
 use Rattle.qk_print.specs.Printing.{Printed, Keyed, Operated, expression_text, printed, keyed, operated, links_text, link_text, jsx_text, body_text, statement_text, statements_texts, text_of, operand_text, field_text, attribute_text, hole_text, child_text, known_text, first_operator, operands_text, element_text, block_text, else_text, pattern_text}
-
-abbrev pub printed_of : Expr → Printed
-printed_of x = record { form = x; text = expression_text x }
-
-abbrev pub keyed_of : Field → Keyed
-keyed_of f = record { key = f.key; text = expression_text f.value }
-
-abbrev pub operated_of : Operand → Operated
-operated_of o = record { op = o.op; form = o.value; text = expression_text o.value }
 
 -- ---- rows are their lists
 
@@ -60,10 +53,23 @@ unfolding hidden-the_row-Stmt-1 hidden
 statements_row [] = refl
 statements_row (s ∷ ss) = ap (λ ts. statement_text s ∷ ts) (statements_row ss)
 
+last_row : (ls : List Link) → ends_in_return (hidden-the_row-Link-5 ls) ≡ last_is_return ls
+unfolding hidden-the_row-Link-5 hidden
+last_row [] = refl
+last_row (l ∷ []) = refl
+last_row (l ∷ m ∷ ls) = last_row (m ∷ ls)
+
+texts_are : (xs : List Expr) → map text_of (map printed_of xs) ≡ map expression_text xs
+texts_are [] = refl
+texts_are (x ∷ xs) = ap (λ ts. expression_text x ∷ ts) (texts_are xs)
+
 -- ---- expressions
 
-pub text_of_list : (xs : List Expr) → expression_text (e.List xs) ≡ codes "[" ++ (commas (map text_of (map printed_of xs)) ++ codes "]")
-text_of_list xs = ap (λ ps. codes "[" ++ (commas (map text_of ps) ++ codes "]")) (printed_row xs)
+pub operand_of_post : (next : Option Bin) (x : Expr) (ls : List Link) → is_operand next (e.Post x ls) ≡ not (is_less next && last_is_return ls)
+operand_of_post next x ls = ap (λ b. not (is_less next && b)) (last_row ls)
+
+pub text_of_list : (xs : List Expr) → expression_text (e.List xs) ≡ codes "[" ++ (expressions_text xs ++ codes "]")
+text_of_list xs = ap (λ ps. codes "[" ++ (commas (map text_of ps) ++ codes "]")) (printed_row xs) ∙ ap (λ ts. codes "[" ++ (commas ts ++ codes "]")) (texts_are xs)
 
 pub text_of_record : (fs : List Field) → expression_text (e.Record fs) ≡ braced (map field_text (map keyed_of fs))
 text_of_record fs = ap (λ ps. braced (map field_text ps)) (keyed_row fs)
@@ -109,8 +115,8 @@ text_of_markup jsx = refl
 
 -- ---- what expressions hold
 
-pub text_of_call : (xs : List Expr) → link_text (l.Call xs) ≡ codes "(" ++ (commas (map text_of (map printed_of xs)) ++ codes ")")
-text_of_call xs = ap (λ ps. codes "(" ++ (commas (map text_of ps) ++ codes ")")) (printed_row xs)
+pub text_of_call : (xs : List Expr) → link_text (l.Call xs) ≡ codes "(" ++ (expressions_text xs ++ codes ")")
+text_of_call xs = ap (λ ps. codes "(" ++ (commas (map text_of ps) ++ codes ")")) (printed_row xs) ∙ ap (λ ts. codes "(" ++ (commas ts ++ codes ")")) (texts_are xs)
 
 pub text_of_element : (tag : Tag) (fs : List Field) (xs : List Expr) → jsx_text (roll-Jsx (record { tag = tag; attrs = fs; children = xs }))
     ≡ element_text tag (map attribute_text (map keyed_of fs)) (map child_text (map printed_of xs))
@@ -122,7 +128,7 @@ pub text_of_value : (x : Expr) → body_text (b.Value x) ≡ unless_bare (not (i
 unfolding shape-the_row-Expr-0 hidden-the_row-Expr-0 hidden
 text_of_value x = refl
 
-pub text_of_body : (ss : List Stmt) → body_text (b.Block ss) ≡ block_text (map statement_text ss)
+pub text_of_body : (ss : List Stmt) → body_text (b.Block ss) ≡ statements_text ss
 text_of_body ss = ap block_text (statements_row ss)
 
 -- ---- statements
@@ -134,16 +140,16 @@ pub text_of_return_value : (x : Expr) → statement_text (s.Return (Some x)) ≡
 text_of_return_value x = refl
 
 pub text_of_if : (x : Expr) (ss ts : List Stmt) → statement_text (s.If x ss ts)
-    ≡ codes "if (" ++ (expression_text x ++ (codes ") " ++ (block_text (map statement_text ss) ++ else_text (map statement_text ts))))
+    ≡ codes "if (" ++ (expression_text x ++ (codes ") " ++ (statements_text ss ++ else_text (map statement_text ts))))
 text_of_if x ss ts = ap (λ us. codes "if (" ++ (expression_text x ++ (codes ") " ++ (block_text us ++ else_text (statements_texts (hidden-the_row-Stmt-1 ts)))))) (statements_row ss)
-    ∙ ap (λ us. codes "if (" ++ (expression_text x ++ (codes ") " ++ (block_text (map statement_text ss) ++ else_text us)))) (statements_row ts)
+    ∙ ap (λ us. codes "if (" ++ (expression_text x ++ (codes ") " ++ (statements_text ss ++ else_text us)))) (statements_row ts)
 
-pub text_of_while : (x : Expr) (ss : List Stmt) → statement_text (s.While x ss) ≡ codes "while (" ++ (expression_text x ++ (codes ") " ++ block_text (map statement_text ss)))
+pub text_of_while : (x : Expr) (ss : List Stmt) → statement_text (s.While x ss) ≡ codes "while (" ++ (expression_text x ++ (codes ") " ++ statements_text ss))
 text_of_while x ss = ap (λ us. codes "while (" ++ (expression_text x ++ (codes ") " ++ block_text us))) (statements_row ss)
 
 pub text_of_for : (name : Text) (x : Expr) (ss : List Stmt) → statement_text (s.ForOf name x ss)
-    ≡ codes "for (const " ++ (name ++ (codes " of " ++ (unless_bare (not (is_markup x)) (expression_text x) ++ (codes ") " ++ block_text (map statement_text ss)))))
+    ≡ codes "for (const " ++ (name ++ (codes " of " ++ (unless_bare (not (is_markup x)) (expression_text x) ++ (codes ") " ++ statements_text ss))))
 text_of_for name x ss = ap (λ us. codes "for (const " ++ (name ++ (codes " of " ++ (unless_bare (not (is_markup x)) (expression_text x) ++ (codes ") " ++ block_text us))))) (statements_row ss)
 
-pub text_of_block : (ss : List Stmt) → statement_text (s.Block ss) ≡ block_text (map statement_text ss)
+pub text_of_block : (ss : List Stmt) → statement_text (s.Block ss) ≡ statements_text ss
 text_of_block ss = ap block_text (statements_row ss)

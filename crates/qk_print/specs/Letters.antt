@@ -6,7 +6,7 @@ use Rattle.qk_ast.specs.declared.Bin.{Bin}
 use Rattle.qk_ast.specs.declared.Bin.TheVariants as bin
 use Rattle.qk_ast.specs.declared.AssignOp.{AssignOp}
 use Rattle.qk_ast.specs.declared.AssignOp.TheVariants as assign
-use Rattle.qk_ast.specs.Characters.{has}
+use Rattle.std.specs.List.{list_any}
 
 abbrev pub Text : Type 0
 Text = List ℕ
@@ -44,7 +44,7 @@ control c = if c == 10 then codes "\\n" else (if c == 13 then codes "\\r" else (
 
 -- a character, with a backslash before it where it is one of these
 abbrev pub escaped : Text → ℕ → Text
-escaped marked c = if nat_lt c 32 then control c else (if has c marked then 92 ∷ c ∷ [] else c ∷ [])
+escaped marked c = if nat_lt c 32 then control c else (if list_any (λ m. m == c) marked then 92 ∷ c ∷ [] else c ∷ [])
 
 abbrev pub quoted : Text → Text
 quoted t = codes "\"" ++ (flat_map (escaped (codes "\"\\")) t ++ codes "\"")

@@ -1,3 +1,5 @@
 pub mod Letters
 pub mod Shapes
 pub mod Printing
+pub mod Lists
+pub mod Growing

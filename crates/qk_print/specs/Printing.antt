@@ -67,11 +67,18 @@ hole_text x = unless_bare (not (is_markup x.form)) x.text
 abbrev pub child_text : Printed → Text
 child_text x = elim (is_markup x.form) [ true ↦ x.text | false ↦ codes "{" ++ (x.text ++ codes "}") ]
 
+abbrev pub known_front : Known → Text
+known_front known.Log = codes "console.log("
+known_front known.Keys = codes "Object.keys("
+known_front known.Str = codes "String("
+known_front known.Trunc = codes "Math.trunc("
+
+abbrev pub known_arguments : Known → List Printed → Text
+known_arguments known.Trunc xs = between (codes " / ") (map (operand_text None) xs)
+known_arguments known xs = commas (map text_of xs)
+
 abbrev pub known_text : Known → List Printed → Text
-known_text known.Log xs = codes "console.log(" ++ (commas (map text_of xs) ++ codes ")")
-known_text known.Keys xs = codes "Object.keys(" ++ (commas (map text_of xs) ++ codes ")")
-known_text known.Str xs = codes "String(" ++ (commas (map text_of xs) ++ codes ")")
-known_text known.Trunc xs = codes "Math.trunc(" ++ (between (codes " / ") (map (operand_text None) xs) ++ codes ")")
+known_text known xs = known_front known ++ (known_arguments known xs ++ codes ")")
 
 -- the operator that comes first
 abbrev pub first_operator : List Operated → Option Bin
@@ -80,7 +87,7 @@ first_operator (o ∷ os) = Some o.op
 
 abbrev pub operands_text : List Operated → Text
 operands_text [] = []
-operands_text (o ∷ os) = bin_sign o.op ++ (unless_bare (is_operand (first_operator os) o.form) o.text ++ operands_text os)
+operands_text (o ∷ os) = bin_sign o.op ++ (operand_text (first_operator os) (record { form = o.form; text = o.text }) ++ operands_text os)
 
 -- `<tag a={e}>children</tag>`, `<tag a={e}/>` without children; a fragment has no tag and is never closed at once
 abbrev pub element_text : Tag → List Text → List Text → Text

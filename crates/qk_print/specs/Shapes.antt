@@ -1,13 +1,11 @@
 -- Which expressions stand without parentheses, and where.
-use Rattle.std.specs.Prelude.{ℕ, Bool, true, false, not, ◌&&◌, ◌||◌, List, [], ◌∷◌, Option, Some, None, codes}
+use Rattle.std.specs.Prelude.{ℕ, Bool, true, false, not, ◌&&◌, ◌||◌, List, [], ◌∷◌, Option, Some, None, codes, bytes_eq}
 use Rattle.qk_ast.specs.declared.Expr.{Expr, Row_of-Link, end_of-Link, more_of-Link}
 use Rattle.qk_ast.specs.declared.Link.{Link}
 use Rattle.qk_ast.specs.declared.Bin.{Bin}
 use Rattle.qk_ast.specs.declared.Bin.TheVariants as bin
 use Rattle.qk_ast.specs.declared.AssignOp.{AssignOp}
 use Rattle.qk_ast.specs.declared.AssignOp.TheVariants as assign
-use Rattle.qk_ast.specs.Characters.{is_one_of, same}
-use Rattle.qk_print.specs.Letters.{Text}
 
 -- names, literals, templates, lists and the known calls
 abbrev pub is_plain : Expr → Bool
@@ -32,13 +30,17 @@ is_markup _ = false
 
 -- What stands where a postfix form begins. After one of the three names what follows would read as a known call.
 abbrev pub is_head : Expr → Bool
-is_head (Expr.Name t) = not (is_one_of t (codes "console" ∷ codes "Object" ∷ codes "String" ∷ []))
+is_head (Expr.Name t) = not (bytes_eq t (codes "console") || (bytes_eq t (codes "Object") || bytes_eq t (codes "String")))
 is_head x = is_plain x
+
+abbrev pub is_return : Link → Bool
+is_return (Link.Prop name) = bytes_eq name (codes "return")
+is_return link = false
 
 abbrev pub ends_in_return : {m : _} → Row_of-Link m → Bool
 ends_in_return end_of-Link = false
-ends_in_return (more_of-Link (Link.Prop name) end_of-Link) = same name (codes "return")
-ends_in_return (more_of-Link link rest) = ends_in_return rest
+ends_in_return (more_of-Link link end_of-Link) = is_return link
+ends_in_return (more_of-Link link (more_of-Link next rest)) = ends_in_return (more_of-Link next rest)
 
 -- `<` after the word `return` would begin JSX
 abbrev pub is_less : Option Bin → Bool

@@ -1,0 +1,19 @@
+-- Bytes that grow at their end keep their front.
+use Rattle.std.specs.Prelude.{◌≡◌, refl, List, ℕ, [], ◌++◌, Result, Ok, Err, OnErr}
+use Rattle.std.proofs.Common.{ap, ◌∙◌, sym}
+use Rattle.std.proofs.lemmas.List.{append_assoc, append-nil}
+use Rattle.qk_print.specs.Growing.{Begins}
+
+pub begins_same : {front bytes : List ℕ} → bytes ≡ front → Begins front bytes
+begins_same h = record { rest = []; is = h ∙ sym (append-nil _) }
+
+pub begins_with : {front bytes : List ℕ} (more : List ℕ) → bytes ≡ front ++ more → Begins front bytes
+begins_with more h = record { rest = more; is = h }
+
+pub begins_after : {front middle bytes : List ℕ} → Begins front middle → Begins middle bytes → Begins front bytes
+begins_after {front = front} h k = record { rest = h.rest ++ k.rest; is = k.is ∙ ap (λ m. m ++ k.rest) h.is ∙ append_assoc front h.rest k.rest }
+
+-- what holds whatever the answer holds after a failure
+pub on_any_err : {A E P : Type 0} (r : Result A E) → P → OnErr r P
+on_any_err (Ok a) p = search
+on_any_err (Err e) p = search
