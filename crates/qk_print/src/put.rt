@@ -1,5 +1,4 @@
 //! Texts, numbers, names and signs.
-#![tactic(auto, using(crate::proofs::Fronts::begins_same, crate::proofs::Fronts::begins_with, crate::proofs::Fronts::begins_after))]
 
 ghost use Rattle.std.specs.Prelude.{◌≡◌, ◌++◌, ◌<◌, OnOk, OnErr, flat_map, map, codes};
 ghost use Rattle.std.specs.Fmt.{signed_decimal};
@@ -9,6 +8,14 @@ ghost use Rattle.qk_print.specs.Letters.{control, escaped, quoted, template_part
 use qk_ast::{AssignOp, Bin, Un};
 use qk_shared::Text;
 use std::alloc::AllocError;
+
+/// A text as it is.
+pub(crate) fn put(text: &str, out: &mut Vec<u8>) -> Result<(), AllocError>
+    ensures ok { OnOk result (out.new.items ≡ out.old.items ++ text.now) }
+    ensures front { OnErr result (Begins out.old.items out.new.items) }
+{
+    out.extend_from_slice(text.as_bytes())
+}
 
 /// An integer in decimal.
 pub(crate) fn integer(n: i64, out: &mut Vec<u8>) -> Result<(), AllocError>
