@@ -17,7 +17,7 @@ use Rattle.qk_ast.specs.declared.Un.{Un}
 use Rattle.qk_ast.specs.declared.AssignOp.{AssignOp}
 use Rattle.qk_ast.specs.declared.Known.{Known}
 use Rattle.qk_ast.specs.declared.Pattern.{Pattern}
-use Rattle.qk_ast.specs.declared.Jsx.{Jsx, roll-Jsx}
+use Rattle.qk_ast.specs.declared.Jsx.{Jsx, roll-Jsx, out-Jsx, roll-out-Jsx}
 use Rattle.qk_ast.specs.declared.Field.{Field}
 use Rattle.qk_ast.specs.declared.Operand.{Operand}
 use Rattle.qk_print.specs.Letters.{Text, between, commas, braced, unless_bare, quoted, parts_and_holes, un_sign, bin_sign, assign_sign, bump_sign}
@@ -59,7 +59,7 @@ last_row [] = refl
 last_row (l ∷ []) = refl
 last_row (l ∷ m ∷ ls) = last_row (m ∷ ls)
 
-texts_are : (xs : List Expr) → map text_of (map printed_of xs) ≡ map expression_text xs
+pub texts_are : (xs : List Expr) → map text_of (map printed_of xs) ≡ map expression_text xs
 texts_are [] = refl
 texts_are (x ∷ xs) = ap (λ ts. expression_text x ∷ ts) (texts_are xs)
 
@@ -123,6 +123,9 @@ pub text_of_element : (tag : Tag) (fs : List Field) (xs : List Expr) → jsx_tex
 unfolding roll-Jsx hidden roll
 text_of_element tag fs xs = ap (λ ps. element_text tag (map attribute_text ps) (map child_text (printed (hidden-the_row-Expr-2 xs)))) (keyed_row fs)
     ∙ ap (λ ps. element_text tag (map attribute_text (map keyed_of fs)) (map child_text ps)) (printed_row xs)
+
+pub text_of_jsx : (jsx : Jsx) → jsx_text jsx ≡ element_text (out-Jsx jsx).tag (map attribute_text (map keyed_of (out-Jsx jsx).attrs)) (map child_text (map printed_of (out-Jsx jsx).children))
+text_of_jsx jsx = ap jsx_text (sym (roll-out-Jsx jsx)) ∙ text_of_element (out-Jsx jsx).tag (out-Jsx jsx).attrs (out-Jsx jsx).children
 
 pub text_of_value : (x : Expr) → body_text (b.Value x) ≡ unless_bare (not (is_record x)) (expression_text x)
 unfolding shape-the_row-Expr-0 hidden-the_row-Expr-0 hidden

@@ -17,3 +17,8 @@ begins_after {front = front} h k = record { rest = h.rest ++ k.rest; is = k.is �
 pub on_any_err : {A E P : Type 0} (r : Result A E) → P → OnErr r P
 on_any_err (Ok a) p = search
 on_any_err (Err e) p = search
+
+-- a call that may end after what others began
+pub begins_at_last : {A E : Type 0} {front middle : List ℕ} (bytes : List ℕ) (r : Result A E) → Begins front middle → OnErr r (Begins middle bytes) → OnErr r (Begins front bytes)
+begins_at_last bytes (Ok a) h k = k
+begins_at_last bytes (Err e) h k = begins_after h k

@@ -41,11 +41,6 @@ pattern_text (p.Name t) = t
 pattern_text (p.Fields ts) = braced ts
 pattern_text (p.Scope ts) = codes "[" ++ (commas ts ++ codes "]")
 
-abbrev pub tag_text : Tag → Text
-tag_text (t.Element name) = name
-tag_text (t.Component name) = name
-tag_text t.Fragment = []
-
 -- ---- parts
 
 abbrev pub text_of : Printed → Text
@@ -89,12 +84,19 @@ abbrev pub operands_text : List Operated → Text
 operands_text [] = []
 operands_text (o ∷ os) = bin_sign o.op ++ (operand_text (first_operator os) (record { form = o.form; text = o.text }) ++ operands_text os)
 
--- `<tag a={e}>children</tag>`, `<tag a={e}/>` without children; a fragment has no tag and is never closed at once
+-- behind the attributes: `/>` without children, else the children and the closing tag
+abbrev pub content_text : Text → List Text → Text
+content_text name [] = codes "/>"
+content_text name (c ∷ cs) = codes ">" ++ (flat_map (λ d. d) (c ∷ cs) ++ (codes "</" ++ (name ++ codes ">")))
+
+-- `<tag a={e}>children</tag>`, or `<>children</>` without a tag
+abbrev pub named_text : Text → List Text → List Text → Text
+named_text name attributes children = codes "<" ++ (name ++ (flat_map (λ a. a) attributes ++ content_text name children))
+
 abbrev pub element_text : Tag → List Text → List Text → Text
+element_text (t.Element name) attributes children = named_text name attributes children
+element_text (t.Component name) attributes children = named_text name attributes children
 element_text t.Fragment attributes children = codes "<>" ++ (flat_map (λ c. c) children ++ codes "</>")
-element_text tag attributes [] = codes "<" ++ (tag_text tag ++ (flat_map (λ a. a) attributes ++ codes "/>"))
-element_text tag attributes (c ∷ cs) = codes "<" ++ (tag_text tag ++ (flat_map (λ a. a) attributes ++ (codes ">" ++ (flat_map (λ d. d) (c ∷ cs)
-    ++ (codes "</" ++ (tag_text tag ++ codes ">"))))))
 
 abbrev pub block_text : List Text → Text
 block_text statements = codes "{ " ++ (flat_map (λ s. s ++ codes " ") statements ++ codes "}")
