@@ -1,5 +1,5 @@
 -- Bytes that grow at their end keep their front.
-use Rattle.std.specs.Prelude.{◌≡◌, refl, List, ℕ, [], ◌++◌, Result, Ok, Err, OnErr}
+use Rattle.std.specs.Prelude.{◌≡◌, refl, List, ℕ, [], ◌++◌, Result, Ok, Err, OnOk, OnErr}
 use Rattle.std.proofs.Common.{ap, ◌∙◌, sym}
 use Rattle.std.proofs.lemmas.List.{append_assoc, append-nil}
 use Rattle.qk_print.specs.Growing.{Begins}
@@ -22,3 +22,12 @@ on_any_err (Err e) p = search
 pub begins_at_last : {A E : Type 0} {front middle : List ℕ} (bytes : List ℕ) (r : Result A E) → Begins front middle → OnErr r (Begins middle bytes) → OnErr r (Begins front bytes)
 begins_at_last bytes (Ok a) h k = k
 begins_at_last bytes (Err e) h k = begins_after h k
+
+-- three calls one after another, the last of which may fail
+pub after_two : {A E : Type 0} (r : Result A E) (front first second bytes a b c d e f : List ℕ) → first ≡ front ++ (a ++ (b ++ c)) → second ≡ first ++ (d ++ e)
+    → OnOk r (bytes ≡ second ++ f) → OnOk r (bytes ≡ front ++ (a ++ (b ++ (c ++ (d ++ (e ++ f))))))
+after_two (Ok x) front first second bytes a b c d e f h k l = l ∙ ap (λ m. m ++ f) k ∙ ap (λ m. (m ++ (d ++ e)) ++ f) h ∙ joined_up front a b c d e f
+  where
+    joined_up : (front a b c d e f : List ℕ) → ((front ++ (a ++ (b ++ c))) ++ (d ++ e)) ++ f ≡ front ++ (a ++ (b ++ (c ++ (d ++ (e ++ f)))))
+    joined_up front a b c d e f = simp append_assoc refl
+after_two (Err x) front first second bytes a b c d e f h k l = l

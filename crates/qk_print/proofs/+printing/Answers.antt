@@ -1,11 +1,12 @@
-use Rattle.std.proofs.Common.{rules, arith, ◌≡◌, ◌++◌, None, map, flat_map, codes, ap, sym, ◌∙◌, refl}
+use Rattle.std.proofs.Common.{rules, arith, not, ◌≡◌, ◌++◌, None, map, flat_map, codes, ap, sym, ◌∙◌, refl}
 use Rattle.std.proofs.lemmas.Grind.{common_steps}
 use Rattle.qk_print.specs.Letters.{braced, commas, parts_and_holes, unless_bare}
+use Rattle.qk_print.specs.Shapes.{is_markup}
 use Rattle.qk_print.specs.Printing.{expression_text, statement_text, link_text, body_text, jsx_text, operand_text, operands_text, field_text, attribute_text, child_text, hole_text, element_text, named_text, content_text, known_front, known_arguments, first_operator, else_text}
 use Rattle.qk_print.specs.Lists.{printed_of, keyed_of, operated_of, expressions_text, statements_text}
 use Rattle.qk_ast.specs.declared.Jsx.{out-Jsx}
 use Rattle.qk_print.proofs.Equations.{text_of_list, text_of_record, text_of_template, text_of_unary, text_of_chain, text_of_choice, text_of_post, text_of_assign, text_of_step, text_of_known, text_of_arrow, text_of_markup, text_of_call, text_of_jsx, texts_are, text_of_value, text_of_body, text_of_if, text_of_while, text_of_for, text_of_block}
-use Rattle.qk_print.proofs.Fronts.{begins_with, begins_after, begins_at_last, on_any_err}
+use Rattle.qk_print.proofs.Fronts.{begins_with, begins_after, begins_at_last, on_any_err, after_two}
 use Rattle.qk_print.proofs.+printing.Goals as goal
 
 pub elements::element-returns-in_ok-attributes-in-Some-clause-ok : goal.elements::element-returns-in_ok-attributes-in-Some-clause-ok
@@ -81,7 +82,11 @@ pub statements::statement-returns-in_ok-put-in-While-2-clause-ok : goal.statemen
 statements::statement-returns-in_ok-put-in-While-2-clause-ok t c = rw (ap statement_text c.in-While.is ∙ text_of_while c.in-While.test c.in-While.inside) (grind (arith, common_steps))
 
 pub statements::statement-returns-in_ok-over-in-ForOf-clause-ok : goal.statements::statement-returns-in_ok-over-in-ForOf-clause-ok
-statements::statement-returns-in_ok-over-in-ForOf-clause-ok t c = rw (ap statement_text c.in-ForOf.is ∙ text_of_for c.in-ForOf.name c.in-ForOf.x c.in-ForOf.inside) (grind (arith, common_steps))
+statements::statement-returns-in_ok-over-in-ForOf-clause-ok t c = 
+    let x = c.in-ForOf.x in
+    let whole = ap statement_text c.in-ForOf.is ∙ text_of_for c.in-ForOf.name x c.in-ForOf.inside in
+    rw whole (rw (← c.as_slice-in-ForOf.ensures) (after_two _ _ _ _ _ (codes "for (const ") c.in-ForOf.name (codes " of ") (unless_bare (not (is_markup x)) (expression_text x)) (codes ") ") _
+        c.in_ok-for_each-in-ForOf.ensures.ok c.in_ok-over-in-ForOf.ensures.ok c.block-in-ForOf.ensures.ok))
 
 pub statements::statement-returns-in-Block-clause-ok : goal.statements::statement-returns-in-Block-clause-ok
 statements::statement-returns-in-Block-clause-ok t c = rw (ap statement_text c.in-Block.is ∙ text_of_block c.in-Block.inside) (grind (arith, common_steps))
