@@ -8,7 +8,9 @@ ghost use Rattle.qk_print.specs.Lists.{printed_of, keyed_of, operated_of, expres
 
 use crate::elements::element;
 use crate::names::patterns;
-use crate::put::{assign_sign, bin_sign, bump_sign, integer, put, quoted, template_part, truth, un_sign};
+use crate::put::{
+    assign_sign, bin_sign, bump_sign, integer, put, quoted, template_part, truth, un_sign,
+};
 use crate::standing::{is_head, is_markup, is_operand, is_record, is_right_side};
 use crate::statements::block;
 use qk_ast::{Arrow, Bin, Body, Expr, Field, Known, Link, Operand};

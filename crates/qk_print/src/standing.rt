@@ -11,7 +11,12 @@ fn is_plain(x: &Expr) -> bool
     ensures { result ≡ is_plain x.now }
 {
     match x {
-        Expr::Undefined | Expr::Null | Expr::Bool(_) | Expr::Int(_) | Expr::Text(_) | Expr::Name(_) => true,
+        Expr::Undefined
+        | Expr::Null
+        | Expr::Bool(_)
+        | Expr::Int(_)
+        | Expr::Text(_)
+        | Expr::Name(_) => true,
         Expr::List(_) | Expr::Template(_, _) | Expr::Known(_, _) => true,
         _ => false,
     }

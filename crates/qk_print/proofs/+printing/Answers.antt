@@ -74,19 +74,19 @@ pub statements::statement-returns-in_ok-block-in-If-clause-ok : goal.statements:
 statements::statement-returns-in_ok-block-in-If-clause-ok t c = rw (ap statement_text c.in-If.is ∙ text_of_if c.in-If.test c.in-If.then c.in-If.otherwise) (grind (arith, common_steps))
 
 pub statements::statement-returns-in_ok-block-in-If-clause-front : goal.statements::statement-returns-in_ok-block-in-If-clause-front
-statements::statement-returns-in_ok-block-in-If-clause-front t c = 
+statements::statement-returns-in_ok-block-in-If-clause-front t c =
     begins_at_last _ _ (begins_after (begins_after (begins_after (begins_with _ c.in_ok-put-in-If.ensures.ok) (begins_with _ c.in_ok-expression-in-If.ensures.ok))
-        (begins_with _ c.in_ok-put-in-If-2.ensures.ok)) (begins_with _ c.in_ok-block-in-If.ensures.ok)) c.else_block.ensures.front
+    (begins_with _ c.in_ok-put-in-If-2.ensures.ok)) (begins_with _ c.in_ok-block-in-If.ensures.ok)) c.else_block.ensures.front
 
 pub statements::statement-returns-in_ok-put-in-While-2-clause-ok : goal.statements::statement-returns-in_ok-put-in-While-2-clause-ok
 statements::statement-returns-in_ok-put-in-While-2-clause-ok t c = rw (ap statement_text c.in-While.is ∙ text_of_while c.in-While.test c.in-While.inside) (grind (arith, common_steps))
 
 pub statements::statement-returns-in_ok-over-in-ForOf-clause-ok : goal.statements::statement-returns-in_ok-over-in-ForOf-clause-ok
-statements::statement-returns-in_ok-over-in-ForOf-clause-ok t c = 
+statements::statement-returns-in_ok-over-in-ForOf-clause-ok t c =
     let x = c.in-ForOf.x in
     let whole = ap statement_text c.in-ForOf.is ∙ text_of_for c.in-ForOf.name x c.in-ForOf.inside in
     rw whole (rw (← c.as_slice-in-ForOf.ensures) (after_two _ _ _ _ _ (codes "for (const ") c.in-ForOf.name (codes " of ") (unless_bare (not (is_markup x)) (expression_text x)) (codes ") ") _
-        c.in_ok-for_each-in-ForOf.ensures.ok c.in_ok-over-in-ForOf.ensures.ok c.block-in-ForOf.ensures.ok))
+    c.in_ok-for_each-in-ForOf.ensures.ok c.in_ok-over-in-ForOf.ensures.ok c.block-in-ForOf.ensures.ok))
 
 pub statements::statement-returns-in-Block-clause-ok : goal.statements::statement-returns-in-Block-clause-ok
 statements::statement-returns-in-Block-clause-ok t c = rw (ap statement_text c.in-Block.is ∙ text_of_block c.in-Block.inside) (grind (arith, common_steps))
