@@ -1,3 +1,6 @@
 pub mod Equations
 pub mod Fronts
 pub mod Rewriting
+pub mod Arrows_kept
+pub mod Values_kept
+pub mod Trees_kept
