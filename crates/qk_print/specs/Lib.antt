@@ -3,3 +3,4 @@ pub mod Shapes
 pub mod Printing
 pub mod Lists
 pub mod Growing
+pub mod Laws

@@ -3,12 +3,14 @@
 
 mod elements;
 mod expressions;
+mod laws;
 mod names;
 mod print;
 mod put;
 mod standing;
 mod statements;
 
+pub use laws::written_as_built;
 pub use print::{PrintFault, print_module};
 
 #[cfg(test)]
