@@ -1,4 +1,5 @@
 pub mod Equations
+pub mod Examples
 pub mod Fronts
 pub mod Rewriting
 pub mod Arrows_kept
@@ -6,3 +7,4 @@ pub mod Values_kept
 pub mod Trees_kept
 pub mod Rules_kept
 pub mod Nesting_kept
+pub mod Laying
