@@ -8,3 +8,4 @@ pub mod Trees_kept
 pub mod Rules_kept
 pub mod Nesting_kept
 pub mod Laying
+pub mod Quoting
