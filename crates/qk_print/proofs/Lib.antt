@@ -9,3 +9,4 @@ pub mod Rules_kept
 pub mod Nesting_kept
 pub mod Laying
 pub mod Quoting
+pub mod Lettering
