@@ -10,3 +10,4 @@ pub mod Nesting_kept
 pub mod Laying
 pub mod Quoting
 pub mod Lettering
+pub mod Standing_kept
