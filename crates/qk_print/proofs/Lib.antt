@@ -11,3 +11,5 @@ pub mod Laying
 pub mod Quoting
 pub mod Lettering
 pub mod Standing_kept
+pub mod Laid_parts
+pub mod Laid
