@@ -13,3 +13,5 @@ pub mod Lettering
 pub mod Standing_kept
 pub mod Laid_parts
 pub mod Laid
+pub mod Laid_modules
+pub mod Integers

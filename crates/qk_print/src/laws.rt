@@ -1,8 +1,9 @@
-//! A law of the writing that is printed: the contract of a function that does nothing.
+//! A law of the printed text: the contract of a function that does nothing.
 
-ghost use Rattle.qk_print.specs.Laws.{WrittenAsBuilt};
+ghost use Rattle.qk_print.specs.Laws.{PrintedTokens};
 
-/// Each module that can be written as a source can be written as a built file, whose nesting suffices for the parentheses that printing puts.
-pub fn written_as_built()
-    ensures { WrittenAsBuilt }
+/// The printed text of a module that a source derives is made of tokens, with gaps between, that derive the module as a built file, and nests no
+/// deeper than built files may.
+pub fn printed_tokens()
+    ensures { PrintedTokens }
 {}

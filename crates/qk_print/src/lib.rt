@@ -10,7 +10,7 @@ mod put;
 mod standing;
 mod statements;
 
-pub use laws::written_as_built;
+pub use laws::printed_tokens;
 pub use print::{PrintFault, print_module};
 
 #[cfg(test)]
