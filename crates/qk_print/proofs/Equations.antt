@@ -1,7 +1,6 @@
 -- The text of each form, over the lists that it holds.
-use Rattle.std.specs.Prelude.{◌≡◌, refl, ℕ, ℤ, Bool, not, ◌&&◌, List, [], ◌∷◌, ◌++◌, map, Option, Some, None, codes, flat_map}
+use Rattle.std.specs.Prelude.{◌≡◌, refl, ℕ, Bool, not, ◌&&◌, List, [], ◌∷◌, ◌++◌, map, Option, Some, None, codes, flat_map}
 use Rattle.std.proofs.Common.{ap, ◌∙◌, sym}
-use Rattle.std.specs.Fmt.{signed_decimal}
 use denote.Hole.Carrier.{hidden, roll}
 use Rattle.qk_ast.specs.declared.Body.TheBlock.{shape-the_row-Expr-0, hidden-the_row-Expr-0, hidden-the_row-Expr-2, hidden-the_row-Stmt-1, hidden-the_row-Field-3, hidden-the_row-Operand-4, hidden-the_row-Link-5, shape-the_row-Arrow-6, hidden-the_row-Arrow-6, shape-the_row-Jsx-7, hidden-the_row-Jsx-7}
 use Rattle.qk_ast.specs.declared.Expr.{Expr}
@@ -20,11 +19,11 @@ use Rattle.qk_ast.specs.declared.Pattern.{Pattern}
 use Rattle.qk_ast.specs.declared.Jsx.{Jsx, roll-Jsx, out-Jsx, roll-out-Jsx}
 use Rattle.qk_ast.specs.declared.Field.{Field}
 use Rattle.qk_ast.specs.declared.Operand.{Operand}
-use Rattle.qk_print.specs.Letters.{Text, between, commas, braced, unless_bare, quoted, parts_and_holes, un_sign, bin_sign, assign_sign, bump_sign}
+use Rattle.qk_print.specs.Letters.{Text, commas, braced, unless_bare, parts_and_holes, un_sign, assign_sign, bump_sign}
 use Rattle.qk_print.specs.Lists.{printed_of, keyed_of, operated_of, expressions_text, statements_text, last_is_return}
 use Rattle.qk_ast.specs.declared.Bin.{Bin}
-use Rattle.qk_print.specs.Shapes.{ends_in_return, is_less, is_record, is_markup, is_head, is_operand, is_statement, is_right_side}
-use Rattle.qk_print.specs.Printing.{Printed, Keyed, Operated, expression_text, printed, keyed, operated, links_text, link_text, jsx_text, body_text, statement_text, statements_texts, text_of, operand_text, field_text, attribute_text, hole_text, child_text, known_text, first_operator, operands_text, element_text, block_text, else_text, pattern_text}
+use Rattle.qk_print.specs.Shapes.{ends_in_return, is_less, is_record, is_markup, is_head, is_operand, is_right_side}
+use Rattle.qk_print.specs.Printing.{expression_text, printed, keyed, operated, links_text, link_text, jsx_text, body_text, statement_text, statements_texts, text_of, operand_text, field_text, attribute_text, hole_text, child_text, known_text, first_operator, operands_text, element_text, block_text, else_text, pattern_text}
 
 -- ---- rows are their lists
 

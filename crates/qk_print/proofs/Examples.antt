@@ -1,9 +1,8 @@
 -- Small modules and their texts.
-use Rattle.std.specs.Prelude.{◌≡◌, refl, ℕ, pos, Bool, true, false, List, [], ◌∷◌, Some, None, codes}
+use Rattle.std.specs.Prelude.{◌≡◌, refl, pos, true, false, List, [], ◌∷◌, Some, None, codes}
 use Rattle.qk_ast.specs.declared.Body.TheBlock.{shape-the_row-Expr-0, hidden-the_row-Expr-0, hidden-the_row-Expr-2, hidden-the_row-Stmt-1, hidden-the_row-Field-3, hidden-the_row-Operand-4, hidden-the_row-Link-5, shape-the_row-Arrow-6, hidden-the_row-Arrow-6, shape-the_row-Jsx-7, hidden-the_row-Jsx-7}
 use denote.Hole.Carrier.{hidden, roll}
 use Rattle.std.specs.Fmt.{digits}
-use Rattle.qk_ast.specs.declared.Module.{Module}
 use Rattle.qk_ast.specs.declared.Import.{Import}
 use Rattle.qk_ast.specs.declared.Expr.{Expr}
 use Rattle.qk_ast.specs.declared.Expr.TheVariants as e
@@ -21,7 +20,7 @@ use Rattle.qk_ast.specs.declared.Un.TheVariants as un
 use Rattle.qk_ast.specs.declared.AssignOp.TheVariants as assign
 use Rattle.qk_ast.specs.declared.Known.TheVariants as known
 use Rattle.qk_ast.specs.declared.Field.{Field}
-use Rattle.qk_ast.specs.declared.Jsx.{Jsx, roll-Jsx}
+use Rattle.qk_ast.specs.declared.Jsx.{roll-Jsx}
 use Rattle.qk_print.specs.Letters.{Text}
 use Rattle.qk_print.specs.Printing.{print_text, expression_text, statement_text}
 
@@ -55,22 +54,40 @@ abbrev qwik : List Text → List Import
 qwik names = record { names = names; from = codes "@builder.io/qwik" } ∷ []
 
 -- the three built files of the counter
-counter_remainder : print_text (record { imports = qwik (codes "componentQrl" ∷ codes "qrl" ∷ []); items = record { exported = true; name = codes "App";
-    init = called (codes "componentQrl") (called (codes "qrl") (e.Text (codes "root_s1") ∷ e.List [] ∷ []) ∷ []) } ∷ [] })
+counter_remainder : print_text (record {
+  imports = qwik (codes "componentQrl" ∷ codes "qrl" ∷ []);
+  items = record {
+    exported = true;
+    name = codes "App";
+    init = called (codes "componentQrl") (called (codes "qrl") (e.Text (codes "root_s1") ∷ e.List [] ∷ []) ∷ []);
+  } ∷ [];
+})
     ≡ codes "import { componentQrl, qrl } from \"@builder.io/qwik\";\nexport const App = componentQrl(qrl(\"root_s1\", []));\n"
 unfolding shape-the_row-Expr-0 hidden-the_row-Expr-0 hidden-the_row-Expr-2 hidden-the_row-Link-5 hidden
 counter_remainder = refl
 
-counter_component : print_text (record { imports = qwik (codes "qrl" ∷ codes "useSignal" ∷ []); items = record { exported = true; name = codes "root_s1";
+counter_component : print_text (record {
+  imports = qwik (codes "qrl" ∷ codes "useSignal" ∷ []);
+  items = record {
+    exported = true;
+    name = codes "root_s1";
     init = arrow [] (b.Block (s.Const (p.Name (codes "n")) (called (codes "useSignal") (e.Int (pos 0) ∷ [])) ∷ s.Return (Some (jsx (t.Element (codes "button"))
         (record { key = codes "id"; value = e.Text (codes "b") } ∷ record { key = codes "onClick$"; value = called (codes "qrl") (e.Text (codes "root_s2") ∷ e.List (named (codes "n") ∷ []) ∷ []) } ∷ [])
-        (of (named (codes "n")) (codes "value") ∷ []))) ∷ [])) } ∷ [] })
+        (of (named (codes "n")) (codes "value") ∷ []))) ∷ []));
+  } ∷ [];
+})
     ≡ codes "import { qrl, useSignal } from \"@builder.io/qwik\";\nexport const root_s1 = () => { const n = useSignal(0); return <button id={\"b\"} onClick$={qrl(\"root_s2\", [n])}>{n.value}</button>; };\n"
 unfolding shape-the_row-Expr-0 hidden-the_row-Expr-0 hidden-the_row-Expr-2 hidden-the_row-Stmt-1 hidden-the_row-Field-3 hidden-the_row-Link-5 shape-the_row-Arrow-6 hidden-the_row-Arrow-6 shape-the_row-Jsx-7 hidden-the_row-Jsx-7 roll-Jsx hidden roll digits
 counter_component = refl
 
-counter_listener : print_text (record { imports = qwik (codes "useLexicalScope" ∷ []); items = record { exported = true; name = codes "root_s2";
-    init = arrow [] (b.Block (s.Const (p.Scope (codes "n" ∷ [])) (called (codes "useLexicalScope") []) ∷ s.Return (Some (e.Step true (of (named (codes "n")) (codes "value")))) ∷ [])) } ∷ [] })
+counter_listener : print_text (record {
+  imports = qwik (codes "useLexicalScope" ∷ []);
+  items = record {
+    exported = true;
+    name = codes "root_s2";
+    init = arrow [] (b.Block (s.Const (p.Scope (codes "n" ∷ [])) (called (codes "useLexicalScope") []) ∷ s.Return (Some (e.Step true (of (named (codes "n")) (codes "value")))) ∷ []));
+  } ∷ [];
+})
     ≡ codes "import { useLexicalScope } from \"@builder.io/qwik\";\nexport const root_s2 = () => { const [n] = useLexicalScope(); return n.value++; };\n"
 unfolding shape-the_row-Expr-0 hidden-the_row-Expr-0 hidden-the_row-Expr-2 hidden-the_row-Stmt-1 hidden-the_row-Link-5 shape-the_row-Arrow-6 hidden-the_row-Arrow-6 hidden
 counter_listener = refl
@@ -113,8 +130,8 @@ elements_row = refl
 
 -- bodies, statements and blocks
 statements_row : statement_text (s.Block (s.If (named (codes "a")) (s.Do (e.Record []) ∷ []) [] ∷ s.If (named (codes "a")) [] (s.Do empty_element ∷ []) ∷ s.While (e.Bool true) (s.Break ∷ s.Continue ∷ [])
-      ∷ s.ForOf (codes "x") empty_element (s.Do (e.Assign assign.Add (named (codes "x")) empty_element) ∷ s.Do (e.Assign assign.Set (named (codes "x")) empty_element) ∷ [])
-      ∷ s.Delete (of (named (codes "a")) (codes "b")) ∷ s.Let (codes "f") (arrow (p.Name (codes "p") ∷ p.Fields (codes "q" ∷ codes "r" ∷ []) ∷ []) (b.Value (e.Record []))) ∷ s.Return None ∷ s.Block [] ∷ []))
+    ∷ s.ForOf (codes "x") empty_element (s.Do (e.Assign assign.Add (named (codes "x")) empty_element) ∷ s.Do (e.Assign assign.Set (named (codes "x")) empty_element) ∷ [])
+    ∷ s.Delete (of (named (codes "a")) (codes "b")) ∷ s.Let (codes "f") (arrow (p.Name (codes "p") ∷ p.Fields (codes "q" ∷ codes "r" ∷ []) ∷ []) (b.Value (e.Record []))) ∷ s.Return None ∷ s.Block [] ∷ []))
     ≡ codes "{ if (a) { ({ }); } if (a) { } else { (<a/>); } while (true) { break; continue; } for (const x of (<a/>)) { x += (<a/>); x = <a/>; } delete a.b; let f = (p, { q, r }) => ({ }); return; { } }"
 unfolding shape-the_row-Expr-0 hidden-the_row-Expr-0 hidden-the_row-Expr-2 hidden-the_row-Stmt-1 hidden-the_row-Field-3 hidden-the_row-Link-5 shape-the_row-Arrow-6 hidden-the_row-Arrow-6 shape-the_row-Jsx-7 hidden-the_row-Jsx-7 roll-Jsx hidden roll
 statements_row = refl

@@ -1,6 +1,6 @@
 -- The integers of a text are written as they are printed.
-use Rattle.std.specs.Prelude.{◌≡◌, refl, ℕ, ◌+◌, ◌*◌, ◌<◌, ◌≤◌, ◌^◌, ◌==◌, pos, Bool, true, false, not, ◌&&◌, ◌||◌, nat_le, Option, Some, List, [], ◌∷◌, ◌++◌, length, IsTrue}
-use Rattle.std.proofs.Common.{ap, sym, ◌∙◌, subst, get_or, arith}
+use Rattle.std.specs.Prelude.{◌≡◌, refl, ℕ, ◌<◌, ◌≤◌, ◌==◌, pos, true, not, ◌&&◌, ◌||◌, Option, [], ◌∷◌, ◌++◌, length, IsTrue}
+use Rattle.std.proofs.Common.{ap, sym, ◌∙◌, subst, arith}
 use Rattle.std.proofs.lemmas.Bool.{false≢true}
 use Rattle.std.specs.Char.{encode_utf8}
 use Rattle.std.specs.Fmt.{signed_decimal}
@@ -9,7 +9,7 @@ use Rattle.std.specs.Str.Parse.{AllDigits, digits_value, digits_value_after}
 use Rattle.std.proofs.lemmas.Str.Parse.{IsNumeralModel}
 use Rattle.std.proofs.lemmas.Fmt.{decimal-digits_value}
 use Rattle.qk_ast.specs.Characters.{Characters, every, is_digit, digit_value, number_after}
-use Rattle.qk_ast.specs.Tokens.{Token, Written, Around, Region, Braces, In_hole, In_tag, In_end, Children, is_int, is_token, stands, tokens_of, after}
+use Rattle.qk_ast.specs.Tokens.{Token, Written, Around, Braces, In_hole, In_tag, In_end, Children, is_int, is_token, stands, tokens_of}
 use Rattle.qk_ast.specs.Tree.{bytes}
 use Rattle.qk_ast.proofs.FrontToken.{left, right}
 use Rattle.qk_ast.proofs.Pieces.{nat_is}
@@ -49,8 +49,8 @@ written_number (d ∷ ds) h =
     let value = same_value (d ∷ ds) 0 0 refl all in
     let small : number_after 10 0 (d ∷ ds) ≤ 9007199254740991 = at_least _ _ (right (is_digit d && every is_digit ds && (not (d == 48) || (length ds == 0))) _ h) in
     ap (λ n. signed_decimal (pos n)) (sym value)
-      ∙ decimal-digits_value itself (d ∷ ds) (all_digits (d ∷ ds) all) (omega arith) (no_leading d ds (right (is_digit d && every is_digit ds) _ (left (is_digit d && every is_digit ds && (not (d == 48) || (length ds == 0))) _ h))) (omega (arith, value, small))
-      ∙ sym (digit_bytes (d ∷ ds) all)
+    ∙ decimal-digits_value itself (d ∷ ds) (all_digits (d ∷ ds) all) (omega arith) (no_leading d ds (right (is_digit d && every is_digit ds) _ (left (is_digit d && every is_digit ds && (not (d == 48) || (length ds == 0))) _ h))) (omega (arith, value, small))
+    ∙ sym (digit_bytes (d ∷ ds) all)
 
 int_of : (around : Around) (before : Option Token) (digits next : Characters) → is_token around before (Token.Int digits) next → IsTrue (is_int digits)
 int_of [] before digits next h = h.0

@@ -1,44 +1,31 @@
 -- The tokens of the printed writing, laid out with spaces, spell the text of the tree.
-use Rattle.std.specs.Prelude.{◌≡◌, refl, ℕ, ◌+◌, pos, Bool, true, false, not, ◌||◌, if◌then◌else◌, Option, Some, None, List, [], ◌∷◌, ◌++◌, map, codes, flat_map}
+use Rattle.std.specs.Prelude.{◌≡◌, refl, ℕ, ◌+◌, Bool, true, false, not, Option, Some, None, List, [], ◌∷◌, ◌++◌, map, codes, flat_map}
 use Rattle.std.proofs.Common.{ap, sym, ◌∙◌, subst}
 use Rattle.std.proofs.lemmas.List.{append_assoc, append-nil}
 use Rattle.std.specs.Char.{encode_utf8}
 use denote.Hole.Carrier.{hidden}
 use Rattle.qk_ast.specs.declared.Body.TheBlock.{shape-the_row-Expr-0, hidden-the_row-Expr-0, hidden-the_row-Expr-2, hidden-the_row-Link-5}
-use Rattle.std.specs.Fmt.{signed_decimal}
 use Rattle.qk_ast.specs.declared.Expr.{Expr}
 use Rattle.qk_ast.specs.declared.Expr.TheVariants as e
-use Rattle.qk_ast.specs.declared.Stmt.TheVariants as s
-use Rattle.qk_ast.specs.declared.Link.TheVariants as l
-use Rattle.qk_ast.specs.declared.Body.TheVariants as b
 use Rattle.qk_ast.specs.declared.Known.TheVariants as known
 use Rattle.qk_ast.specs.declared.Tag.TheVariants as t
-use Rattle.std.proofs.lemmas.Bool.{false≢true}
 use Rattle.qk_ast.specs.declared.Bin.{Bin}
 use Rattle.qk_ast.specs.declared.AssignOp.{AssignOp}
-use Rattle.qk_ast.specs.declared.AssignOp.TheVariants as assign
-use Rattle.qk_ast.specs.declared.Un.{Un}
-use Rattle.qk_ast.specs.declared.Un.TheVariants as un
-use Rattle.qk_ast.specs.declared.Bin.TheVariants as bin
-use Rattle.qk_ast.specs.Characters.{Characters, number_after, begins_with, is_small_letter}
+use Rattle.qk_ast.specs.Characters.{Characters}
 use Rattle.qk_ast.specs.JsxText.{jsx_text, decoded}
 use Rattle.qk_ast.specs.Tokens.{Token, piece_value}
-use Rattle.qk_ast.specs.Tree.{bytes, value, arrows, tree, operands_tree, holes_tree, link_tree, links_tree, arguments_tree, field_tree, fields_tree, element_tree, attributes_tree, children_tree, body_tree, step_tree, statement_tree, statements_tree, part_tree, names_tree, binding_tree, bindings_tree, parameters_tree, parts_tree, before_children, tag_tree, word_text}
-use Rattle.qk_print.specs.Letters as letter
-use Rattle.qk_print.specs.Letters.{Text, between, commas, braced, unless_bare, quoted, template_part, parts_and_holes}
-use Rattle.qk_print.specs.Shapes.{is_operand, is_head, is_markup, is_record, is_statement, is_right_side}
-use Rattle.qk_print.specs.Printing.{expression_text, operand_text, operands_text, first_operator, hole_text, field_text, attribute_text, child_text, link_text, body_text, statement_text, pattern_text, named_text, content_text, element_text, block_text, else_text, jsx_text as jsx}
+use Rattle.qk_ast.specs.Tree.{bytes, value, arrows, tree, operands_tree, holes_tree, link_tree, links_tree, arguments_tree, field_tree, fields_tree, element_tree, attributes_tree, children_tree, body_tree, step_tree, statement_tree, statements_tree, part_tree, parameters_tree, parts_tree, before_children, tag_tree, word_text}
+use Rattle.qk_print.specs.Letters.{Text, between, commas, quoted, template_part, parts_and_holes}
+use Rattle.qk_print.specs.Printing.{expression_text, operand_text, operands_text, first_operator, hole_text, field_text, attribute_text, child_text, link_text, body_text, statement_text, pattern_text, block_text, else_text, jsx_text as jsx}
 use Rattle.qk_print.specs.Lists.{printed_of, keyed_of, operated_of}
 use Rattle.qk_print.proofs.Equations as eq
 use Rattle.qk_print.proofs.Standing_kept.{same_operand, same_head, same_record, same_markup, same_statement_form}
-use Rattle.qk_print.proofs.Laying.{Lays, lays_nothing, lays_then, lays_so, lays_space}
+use Rattle.qk_print.proofs.Laying.{Lays, lays_nothing, lays_so, lays_space}
 use Rattle.qk_print.proofs.Lettering as x
-use Rattle.qk_ast.specs.Grammar.{Names, Last_name, Last_comma, Next_name, Binding, Plain, Fields_of, Bindings, No_binding, Only_binding, Binding_comma, Parameters, Bare, In_brackets, Word, Free, Taken, Expression, Undefined, Null, Truth, Number, Quoted, Named, Whole, Holed, Bracketed, Listed, Recorded, Markup, Log, Keys, Str, Trunc, Postfix, Prefix, Chain, Choice, Function, Operands, No_operand, Operand, Holes, Last_part, Part_hole, Link, Dot, Index, Call, Links, No_link, Next_link, Arguments, No_argument, Only, Comma, Field, Key, Quoted_key, Short, Fields, No_field, Only_field, Field_comma, Element, Closed, Open, Fragment, Attributes, No_attribute, Set, Set_text, Set_value, Children, No_child, Text_child, Empty_child, Value_child, Element_child, Body, Block_body, Step_body, Step, Plain_step, Assign, Bump, Statement, Const, Scope, Let, Return, Return_step, If, If_else, While, For_of, Break, Continue, Delete, Block, Do, Statements, No_statement, Then, Part, Block_part, Statement_part, Import_line, Item_line, Module_text}
-use Rattle.qk_print.proofs.Rewriting.{text_pieces, template_pieces, quoted_text, enclosed, as_head, as_operand, unless_markup, unless_record, as_right_side, as_statement, stands_plain, stands_as_head, stands_as_operand, is_recorded, is_marked_up, begins_known, is_return_link, ends_with_return, built_names, built_binding, then_bindings, built_bindings, built_parameters, then_arguments, then_fields, word_characters, text_child, value_child, opened, first_of_operands, either_way, built, built_operands, built_holes, built_link, built_links, built_arguments, built_field, built_fields, built_element, built_attributes, built_children, built_body, built_step, built_statement, built_statements, built_part, built_import, built_item, built_module}
-use Rattle.qk_ast.specs.Spelling.{Writing, ◌⨾◌, tokens, names_tokens, binding_tokens, bindings_tokens, parameters_tokens, word_tokens, un_sign, bin_sign, assign_sign, bump_sign, truth_word, scope_tokens, operands_tokens, holes_tokens, link_tokens, links_tokens, arguments_tokens, field_tokens, fields_tokens, element_tokens, attributes_tokens, children_tokens, body_tokens, step_tokens, statement_tokens, statements_tokens, part_tokens, comma, sign, name, word, begin, curly}
-
-use Rattle.qk_print.proofs.Laid_parts.{Numbers, ◌⊹◌, un_numbers, bin_numbers, assign_numbers, bump_numbers, truth_numbers, word_numbers, names_numbers, binding_numbers, bindings_numbers, parameters_numbers, scope_numbers, lays_enclosed, lays_by, right_side_laid, Matched, comma_space, no_argument, then_arguments_laid, some_argument, no_field, then_fields_laid, some_field, lays_braced, names_laid, binding_laid, parameters_laid, lays_child, no_child, lays_opened, tag_is}
-use Rattle.qk_print.specs.Printing.{Printed, Keyed, Operated, text_of}
+use Rattle.qk_ast.specs.Grammar.{Word, Free, Taken, Expression, Undefined, Null, Truth, Number, Quoted, Named, Whole, Holed, Bracketed, Listed, Recorded, Markup, Log, Keys, Str, Trunc, Postfix, Prefix, Chain, Choice, Function, Operands, No_operand, Operand, Holes, Last_part, Part_hole, Link, Dot, Index, Call, Links, No_link, Next_link, Arguments, No_argument, Only, Comma, Field, Key, Quoted_key, Short, Fields, No_field, Only_field, Field_comma, Element, Closed, Open, Fragment, Attributes, No_attribute, Set, Set_text, Set_value, Children, No_child, Text_child, Empty_child, Value_child, Element_child, Body, Block_body, Step_body, Step, Plain_step, Assign, Bump, Statement, Const, Scope, Let, Return, Return_step, If, If_else, While, For_of, Break, Continue, Delete, Block, Do, Statements, No_statement, Then, Part, Block_part, Statement_part}
+use Rattle.qk_print.proofs.Rewriting.{as_operand, unless_markup, as_right_side, word_characters, text_child, value_child, first_of_operands, either_way, built, built_operands, built_holes, built_link, built_links, built_arguments, built_field, built_fields, built_element, built_attributes, built_children, built_body, built_step, built_statement, built_statements, built_part}
+use Rattle.qk_ast.specs.Spelling.{Writing, ◌⨾◌, tokens, word_tokens, bin_sign, assign_sign, bump_sign, scope_tokens, operands_tokens, holes_tokens, link_tokens, links_tokens, arguments_tokens, field_tokens, fields_tokens, element_tokens, attributes_tokens, children_tokens, body_tokens, step_tokens, statement_tokens, statements_tokens, part_tokens, comma, sign, word, curly}
+use Rattle.qk_print.proofs.Laid_parts.{Numbers, ◌⊹◌, un_numbers, bin_numbers, assign_numbers, bump_numbers, truth_numbers, word_numbers, binding_numbers, parameters_numbers, scope_numbers, lays_by, right_side_laid, Matched, comma_space, no_argument, then_arguments_laid, some_argument, no_field, then_fields_laid, some_field, lays_braced, binding_laid, parameters_laid, lays_child, no_child, lays_opened, tag_is}
 
 abbrev Text_of : ℕ → Expression → Text
 Text_of n v = expression_text (tree n v)
@@ -154,9 +141,11 @@ mutual
   laid (Quoted quote pieces) n R g = (x.lays_quoted (map piece_value pieces), g)
   laid (Named a) n R g = (x.lays_name a, g)
   laid (Whole pieces) n R g = (lays_so _ _ _ (ap (λ p. codes "`" ++ (p ++ codes "`")) (sym (append-nil _)) ∙ sym (eq.text_of_template (value pieces ∷ []) [])) (x.lays_whole (map piece_value pieces)), g)
-  laid (Holed pieces v more) n R g = let a = laid v n (holes_tokens more R) g in let m = n + arrows (tokens v) in let d = holes_laid more m R a.1 in
-      (lays_so _ _ _ (holed_is (template_part (value pieces)) (parts_and_holes (parts_tree more) (map hole_text (map printed_of (holes_tree m more)))) (hole_text (printed_of (tree n v)))
-        ∙ sym (eq.text_of_template (value pieces ∷ parts_tree more) (tree n v ∷ holes_tree m more))) (x.lays_first_part (map piece_value pieces) ⊹ (hole_laid v n a.0 ⊹ d.0)), d.1)
+  laid (Holed pieces v more) n R g = let a = laid v n (holes_tokens more R) g in let m = n + arrows (tokens v) in let d = holes_laid more m R a.1 in (
+    lays_so _ _ _ (holed_is (template_part (value pieces)) (parts_and_holes (parts_tree more) (map hole_text (map printed_of (holes_tree m more)))) (hole_text (printed_of (tree n v)))
+        ∙ sym (eq.text_of_template (value pieces ∷ parts_tree more) (tree n v ∷ holes_tree m more))) (x.lays_first_part (map piece_value pieces) ⊹ (hole_laid v n a.0 ⊹ d.0)),
+    d.1,
+  )
   laid (Bracketed v) n R g = let a = laid v n (Token.Punct (codes ")") ∷ R) g in (a.0, a.1)
   laid (Listed arguments) n R g = let a = arguments_laid arguments n (Token.Punct (codes "]") ∷ R) g in (lays_so _ _ _ (sym (eq.text_of_list (arguments_tree n arguments))) (x.lays_square ⊹ (a.0 ⊹ x.lays_end_square)), a.2)
   laid (Recorded fields) n R g = let a = fields_laid fields n (Token.Punct (codes "}") ∷ R) g in (lays_so _ _ _ (sym (eq.text_of_record (fields_tree n fields))) (lays_braced _ _ a.0), a.2)
@@ -167,23 +156,29 @@ mutual
       (lays_so _ _ _ (sym (eq.text_of_known known.Keys (tree n v ∷ []))) ((x.lays_Object ⊹ (x.lays_dot ⊹ (x.lays_keys ⊹ x.lays_open))) ⊹ (lays_so _ _ _ (sym (append-nil _)) a.0 ⊹ x.lays_close)), a.1)
   laid (Str v) n R g = let a = laid v n (Token.Punct (codes ")") ∷ R) g in
       (lays_so _ _ _ (sym (eq.text_of_known known.Str (tree n v ∷ []))) ((x.lays_String ⊹ x.lays_open) ⊹ (lays_so _ _ _ (sym (append-nil _)) a.0 ⊹ x.lays_close)), a.1)
-  laid (Trunc v w) n R g = let a = laid v n (sign (codes "/") (tokens w (Token.Punct (codes ")") ∷ R))) g in let m = n + arrows (tokens v) in let c = laid w m (Token.Punct (codes ")") ∷ R) a.1 in
-      (lays_so _ _ _ (ap (λ p. codes "Math.trunc(" ++ (p ++ codes ")")) (quotient_is (operand_text None (printed_of (tree n v))) (operand_text None (printed_of (tree m w)))) ∙ sym (eq.text_of_known known.Trunc (tree n v ∷ tree m w ∷ [])))
-        ((x.lays_Math ⊹ (x.lays_dot ⊹ (x.lays_trunc ⊹ x.lays_open))) ⊹ ((operand_laid None v n a.0 ⊹ (x.lays_apart x.lays_slash ⊹ operand_laid None w m c.0)) ⊹ x.lays_close)), c.1)
+  laid (Trunc v w) n R g = let a = laid v n (sign (codes "/") (tokens w (Token.Punct (codes ")") ∷ R))) g in let m = n + arrows (tokens v) in let c = laid w m (Token.Punct (codes ")") ∷ R) a.1 in (
+    lays_so _ _ _ (ap (λ p. codes "Math.trunc(" ++ (p ++ codes ")")) (quotient_is (operand_text None (printed_of (tree n v))) (operand_text None (printed_of (tree m w)))) ∙ sym (eq.text_of_known known.Trunc (tree n v ∷ tree m w ∷ [])))
+        ((x.lays_Math ⊹ (x.lays_dot ⊹ (x.lays_trunc ⊹ x.lays_open))) ⊹ ((operand_laid None v n a.0 ⊹ (x.lays_apart x.lays_slash ⊹ operand_laid None w m c.0)) ⊹ x.lays_close)),
+    c.1,
+  )
   laid (Postfix head link more) n R g = let a = laid head n (link_tokens link (links_tokens more R)) g in let m = n + arrows (tokens head) in let c = link_laid link m (links_tokens more R) a.1 in
       let k = n + arrows (tokens head ⨾ link_tokens link) in let d = links_laid more k R c.1 in
       (lays_so _ _ _ (sym (eq.text_of_post (tree n head) (link_tree m link ∷ links_tree k more))) (lays_by _ _ (built head) _ (same_head head n) a.0 ⊹ (c.0 ⊹ d.0)), d.1)
   laid (Prefix op v) n R g = let a = laid v n R (un_numbers op (tokens v R) g) in (lays_so _ _ _ (sym (eq.text_of_unary op (tree n v))) (x.lays_un op ⊹ operand_laid None v n a.0), a.1)
   laid (Chain v op w more) n R g = let a = laid v n (bin_sign op (tokens w (operands_tokens more R))) g in let m = n + arrows (tokens v) in let c = laid w m (operands_tokens more R) (bin_numbers op _ a.1) in
-      let k = n + arrows (tokens v ⨾ tokens w) in let d = operands_laid more k R c.1 in
-      (lays_so _ _ _ (sym (eq.text_of_chain (tree n v) (record { op = op; value = tree m w } ∷ operands_tree k more)))
-        (operand_laid (Some op) v n a.0 ⊹ (x.lays_bin op ⊹ (lays_so _ _ _ (ap (λ o. operand_text o (printed_of (tree m w))) (first_of more k)) (operand_laid (first_of_operands more) w m c.0) ⊹ d.0))), d.1)
+      let k = n + arrows (tokens v ⨾ tokens w) in let d = operands_laid more k R c.1 in (
+        lays_so _ _ _ (sym (eq.text_of_chain (tree n v) (record { op = op; value = tree m w } ∷ operands_tree k more)))
+            (operand_laid (Some op) v n a.0 ⊹ (x.lays_bin op ⊹ (lays_so _ _ _ (ap (λ o. operand_text o (printed_of (tree m w))) (first_of more k)) (operand_laid (first_of_operands more) w m c.0) ⊹ d.0))),
+        d.1,
+      )
   laid (Choice v w z) n R g = let a = laid v n (sign (codes "?") (tokens w (sign (codes ":") (tokens z R)))) g in let m = n + arrows (tokens v) in let c = laid w m (sign (codes ":") (tokens z R)) a.1 in
       let k = n + arrows (tokens v ⨾ tokens w) in let d = laid z k R c.1 in
       (lays_so _ _ _ (sym (eq.text_of_choice (tree n v) (tree m w) (tree k z))) (operand_laid None v n a.0 ⊹ (x.lays_apart x.lays_question ⊹ (operand_laid None w m c.0 ⊹ (x.lays_apart x.lays_colon ⊹ operand_laid None z k d.0)))), d.1)
-  laid (Function parameters body) n R g = let a = body_laid body (n + 1) R (parameters_numbers parameters _ g) in
-      (lays_so _ _ _ (function_is (commas (map pattern_text (parameters_tree parameters))) (body_text (body_tree (n + 1) body)) ∙ sym (eq.text_of_arrow n (parameters_tree parameters) (body_tree (n + 1) body)))
-        (parameters_laid parameters ⊹ (x.lays_apart x.lays_arrow ⊹ a.0)), a.1)
+  laid (Function parameters body) n R g = let a = body_laid body (n + 1) R (parameters_numbers parameters _ g) in (
+    lays_so _ _ _ (function_is (commas (map pattern_text (parameters_tree parameters))) (body_text (body_tree (n + 1) body)) ∙ sym (eq.text_of_arrow n (parameters_tree parameters) (body_tree (n + 1) body)))
+        (parameters_laid parameters ⊹ (x.lays_apart x.lays_arrow ⊹ a.0)),
+    a.1,
+  )
 
   pub operands_laid : (os : Operands) (n : ℕ) (R : List Token) → Numbers (operands_tokens os R) → Lays (operands_tokens (built_operands os)) (operands_text (map operated_of (operands_tree n os))) × Numbers R
   operands_laid No_operand n R g = (lays_nothing, g)
@@ -192,9 +187,11 @@ mutual
 
   pub holes_laid : (hs : Holes) (n : ℕ) (R : List Token) → Numbers (holes_tokens hs R) → Lays (holes_tokens (built_holes hs)) (codes "}" ++ (parts_and_holes (parts_tree hs) (map hole_text (map printed_of (holes_tree n hs))) ++ codes "`")) × Numbers R
   holes_laid (Last_part pieces) n R g = (lays_so _ _ _ (ap (λ p. codes "}" ++ (p ++ codes "`")) (sym (append-nil _))) (x.lays_last_part (map piece_value pieces)), g)
-  holes_laid (Part_hole pieces v more) n R g = let a = laid v n (holes_tokens more R) g in let m = n + arrows (tokens v) in let d = holes_laid more m R a.1 in
-      (lays_so _ _ _ (later_is (template_part (value pieces)) (parts_and_holes (parts_tree more) (map hole_text (map printed_of (holes_tree m more)))) (hole_text (printed_of (tree n v))))
-        (x.lays_later_part (map piece_value pieces) ⊹ (hole_laid v n a.0 ⊹ d.0)), d.1)
+  holes_laid (Part_hole pieces v more) n R g = let a = laid v n (holes_tokens more R) g in let m = n + arrows (tokens v) in let d = holes_laid more m R a.1 in (
+    lays_so _ _ _ (later_is (template_part (value pieces)) (parts_and_holes (parts_tree more) (map hole_text (map printed_of (holes_tree m more)))) (hole_text (printed_of (tree n v))))
+        (x.lays_later_part (map piece_value pieces) ⊹ (hole_laid v n a.0 ⊹ d.0)),
+    d.1,
+  )
 
   pub link_laid : (k : Link) (n : ℕ) (R : List Token) → Numbers (link_tokens k R) → Lays (link_tokens (built_link k)) (link_text (link_tree n k)) × Numbers R
   link_laid (Dot w) n R g = (x.lays_dot ⊹ word_laid w, word_numbers w R g)
@@ -275,9 +272,11 @@ mutual
       (lays_so _ _ _ (sym (eq.text_of_if (tree n test) (part_tree m yes') (part_tree k no'))) (either_way_laid (built test) (built_part yes') (built_part no') (Text_of n test) (map statement_text (part_tree m yes')) (map statement_text (part_tree k no')) d.1 a.0 c.0 d.0), d.2)
   statement_laid (While test part) n R g = let a = laid test n (sign (codes ")") (part_tokens part R)) g in let m = n + arrows (tokens test) in let c = part_laid part m R a.1 in
       (lays_so _ _ _ (sym (eq.text_of_while (tree n test) (part_tree m part))) ((x.lays_while ⊹ (lays_space ⊹ x.lays_open)) ⊹ (a.0 ⊹ ((x.lays_close ⊹ lays_space) ⊹ block_laid _ (map statement_text (part_tree m part)) c.0))), c.2)
-  statement_laid (For_of a v part) n R g = let c = laid v n (sign (codes ")") (part_tokens part R)) g in let m = n + arrows (tokens v) in let d = part_laid part m R c.1 in
-      (lays_so _ _ _ (sym (eq.text_of_for (bytes a) (tree n v) (part_tree m part)))
-        ((x.lays_for ⊹ (lays_space ⊹ (x.lays_open ⊹ (x.lays_const ⊹ lays_space)))) ⊹ (x.lays_name a ⊹ (x.lays_apart x.lays_of ⊹ (hole_laid v n c.0 ⊹ ((x.lays_close ⊹ lays_space) ⊹ block_laid _ (map statement_text (part_tree m part)) d.0))))), d.2)
+  statement_laid (For_of a v part) n R g = let c = laid v n (sign (codes ")") (part_tokens part R)) g in let m = n + arrows (tokens v) in let d = part_laid part m R c.1 in (
+    lays_so _ _ _ (sym (eq.text_of_for (bytes a) (tree n v) (part_tree m part)))
+        ((x.lays_for ⊹ (lays_space ⊹ (x.lays_open ⊹ (x.lays_const ⊹ lays_space)))) ⊹ (x.lays_name a ⊹ (x.lays_apart x.lays_of ⊹ (hole_laid v n c.0 ⊹ ((x.lays_close ⊹ lays_space) ⊹ block_laid _ (map statement_text (part_tree m part)) d.0))))),
+    d.2,
+  )
   statement_laid Break n R g = (x.lays_break ⊹ x.lays_semicolon, g)
   statement_laid Continue n R g = (x.lays_continue ⊹ x.lays_semicolon, g)
   statement_laid (Delete target) n R g = let a = laid target n (Token.Punct (codes ";") ∷ R) g in ((x.lays_delete ⊹ lays_space) ⊹ (a.0 ⊹ x.lays_semicolon), a.1)

@@ -1,14 +1,8 @@
 -- The tokens of the printed writing, laid out with spaces, spell the text of the tree.
-use Rattle.std.specs.Prelude.{◌≡◌, refl, ℕ, ◌+◌, pos, Bool, true, false, not, ◌||◌, if◌then◌else◌, Option, Some, None, List, [], ◌∷◌, ◌++◌, map, codes, flat_map}
-use Rattle.std.proofs.Common.{ap, sym, ◌∙◌, subst}
+use Rattle.std.specs.Prelude.{◌≡◌, refl, ℕ, pos, Bool, true, false, not, if◌then◌else◌, List, [], ◌∷◌, ◌++◌, map, codes, flat_map}
+use Rattle.std.proofs.Common.{ap, sym, subst}
 use Rattle.std.proofs.lemmas.List.{append_assoc, append-nil}
 use Rattle.std.specs.Fmt.{signed_decimal}
-use Rattle.qk_ast.specs.declared.Expr.{Expr}
-use Rattle.qk_ast.specs.declared.Expr.TheVariants as e
-use Rattle.qk_ast.specs.declared.Stmt.TheVariants as s
-use Rattle.qk_ast.specs.declared.Link.TheVariants as l
-use Rattle.qk_ast.specs.declared.Body.TheVariants as b
-use Rattle.qk_ast.specs.declared.Known.TheVariants as known
 use Rattle.qk_ast.specs.declared.Tag.TheVariants as t
 use Rattle.std.proofs.lemmas.Bool.{false≢true}
 use Rattle.qk_ast.specs.declared.Bin.{Bin}
@@ -18,21 +12,17 @@ use Rattle.qk_ast.specs.declared.Un.{Un}
 use Rattle.qk_ast.specs.declared.Un.TheVariants as un
 use Rattle.qk_ast.specs.declared.Bin.TheVariants as bin
 use Rattle.qk_ast.specs.Characters.{Characters, number_after, begins_with, is_small_letter}
-use Rattle.qk_ast.specs.JsxText.{jsx_text, decoded}
-use Rattle.qk_ast.specs.Tokens.{Token, piece_value}
-use Rattle.qk_ast.specs.Tree.{bytes, value, arrows, tree, operands_tree, holes_tree, link_tree, links_tree, arguments_tree, field_tree, fields_tree, element_tree, attributes_tree, children_tree, body_tree, step_tree, statement_tree, statements_tree, part_tree, names_tree, binding_tree, bindings_tree, parameters_tree, parts_tree, before_children, tag_tree, word_text}
-use Rattle.qk_print.specs.Letters as letter
-use Rattle.qk_print.specs.Letters.{Text, between, commas, braced, unless_bare, quoted, template_part, parts_and_holes}
-use Rattle.qk_print.specs.Shapes.{is_operand, is_head, is_markup, is_record, is_statement, is_right_side}
-use Rattle.qk_print.specs.Printing.{expression_text, operand_text, operands_text, first_operator, hole_text, field_text, attribute_text, child_text, link_text, body_text, statement_text, pattern_text, named_text, content_text, element_text, block_text, else_text}
-use Rattle.qk_print.specs.Lists.{printed_of, keyed_of, operated_of}
-use Rattle.qk_print.proofs.Equations as eq
-use Rattle.qk_print.proofs.Standing_kept.{same_operand, same_head, same_record, same_markup, same_statement_form}
+use Rattle.qk_ast.specs.Tokens.{Token}
+use Rattle.qk_ast.specs.Tree.{bytes, tree, names_tree, binding_tree, bindings_tree, parameters_tree, tag_tree}
+use Rattle.qk_print.specs.Letters.{Text, commas, braced, unless_bare}
+use Rattle.qk_print.specs.Shapes.{is_right_side}
+use Rattle.qk_print.specs.Printing.{expression_text, pattern_text, named_text, element_text}
+use Rattle.qk_print.proofs.Standing_kept.{same_markup}
 use Rattle.qk_print.proofs.Laying.{Lays, lays_nothing, lays_then, lays_so, lays_space}
 use Rattle.qk_print.proofs.Lettering as x
-use Rattle.qk_ast.specs.Grammar.{Names, Last_name, Last_comma, Next_name, Binding, Plain, Fields_of, Bindings, No_binding, Only_binding, Binding_comma, Parameters, Bare, In_brackets, Word, Free, Taken, Expression, Undefined, Null, Truth, Number, Quoted, Named, Whole, Holed, Bracketed, Listed, Recorded, Markup, Log, Keys, Str, Trunc, Postfix, Prefix, Chain, Choice, Function, Operands, No_operand, Operand, Holes, Last_part, Part_hole, Link, Dot, Index, Call, Links, No_link, Next_link, Arguments, No_argument, Only, Comma, Field, Key, Quoted_key, Short, Fields, No_field, Only_field, Field_comma, Element, Closed, Open, Fragment, Attributes, No_attribute, Set, Set_text, Set_value, Children, No_child, Text_child, Empty_child, Value_child, Element_child, Body, Block_body, Step_body, Step, Plain_step, Assign, Bump, Statement, Const, Scope, Let, Return, Return_step, If, If_else, While, For_of, Break, Continue, Delete, Block, Do, Statements, No_statement, Then, Part, Block_part, Statement_part, Import_line, Item_line, Module_text}
-use Rattle.qk_print.proofs.Rewriting.{text_pieces, template_pieces, quoted_text, enclosed, as_head, as_operand, unless_markup, unless_record, as_right_side, as_statement, stands_plain, stands_as_head, stands_as_operand, is_recorded, is_marked_up, begins_known, is_return_link, ends_with_return, built_names, built_binding, then_bindings, built_bindings, built_parameters, then_arguments, then_fields, word_characters, text_child, value_child, opened, first_of_operands, either_way, built, built_operands, built_holes, built_link, built_links, built_arguments, built_field, built_fields, built_element, built_attributes, built_children, built_body, built_step, built_statement, built_statements, built_part, built_import, built_item, built_module}
-use Rattle.qk_ast.specs.Spelling.{Writing, ◌⨾◌, tokens, names_tokens, binding_tokens, bindings_tokens, parameters_tokens, word_tokens, un_sign, bin_sign, assign_sign, bump_sign, truth_word, scope_tokens, operands_tokens, holes_tokens, link_tokens, links_tokens, arguments_tokens, field_tokens, fields_tokens, element_tokens, attributes_tokens, children_tokens, body_tokens, step_tokens, statement_tokens, statements_tokens, part_tokens, comma, sign, name, begin, curly}
+use Rattle.qk_ast.specs.Grammar.{Names, Last_name, Last_comma, Next_name, Binding, Plain, Fields_of, Bindings, No_binding, Only_binding, Binding_comma, Parameters, Bare, In_brackets, Word, Free, Taken, Expression, Undefined, Null, Truth, Number, Quoted, Named, Whole, Holed, Bracketed, Listed, Recorded, Markup, Log, Keys, Str, Trunc, Postfix, Prefix, Chain, Choice, Function, Arguments, No_argument, Only, Comma, Field, Fields, No_field, Only_field, Field_comma, Attributes, Children, No_child, Text_child, Empty_child, Value_child, Element_child}
+use Rattle.qk_print.proofs.Rewriting.{enclosed, as_right_side, is_marked_up, built_names, built_binding, then_bindings, built_bindings, built_parameters, then_arguments, then_fields, value_child, opened, built}
+use Rattle.qk_ast.specs.Spelling.{Writing, ◌⨾◌, tokens, names_tokens, binding_tokens, bindings_tokens, parameters_tokens, word_tokens, un_sign, bin_sign, assign_sign, bump_sign, truth_word, scope_tokens, arguments_tokens, field_tokens, fields_tokens, element_tokens, attributes_tokens, children_tokens, comma, curly}
 
 -- each number among the tokens is written as it is printed
 abbrev pub Numbers : List Token → Type 0
@@ -186,6 +176,7 @@ names_laid (Next_name a more) = more_names (names_tree more) (some_names more) (
     some_names (Last_name c) = tt
     some_names (Last_comma c) = tt
     some_names (Next_name c cs) = tt
+
     more_names : (ps : List Text) → Matched false ps → Lays (names_tokens (built_names more)) (commas ps) → Lays (names_tokens (Next_name a (built_names more))) (commas (bytes a ∷ ps))
     more_names [] m k = absurd m
     more_names (q ∷ qs) m k = lays_so _ _ _ (commas_more (bytes a) q qs) (x.lays_name a ⊹ (comma_space ⊹ k))

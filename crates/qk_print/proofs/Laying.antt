@@ -1,5 +1,5 @@
 -- Written text, laid out token by token: what is spelled, and which tokens are read.
-use Rattle.std.specs.Prelude.{◌≡◌, refl, ℕ, Bool, true, false, List, [], ◌∷◌, ◌++◌, codes}
+use Rattle.std.specs.Prelude.{◌≡◌, refl, ℕ, [], ◌∷◌, ◌++◌, codes}
 use Rattle.std.proofs.Common.{ap, sym, ◌∙◌, subst}
 use Rattle.std.proofs.lemmas.List.{append_assoc}
 use Rattle.std.specs.Char.{encode_utf8}
@@ -42,6 +42,7 @@ lays_blank c t h = record { line = after_blank c; spells = spells; reads = reads
     spells : (R : Written) → spelled_bytes (after_blank c R) ≡ t ++ spelled_bytes R
     spells (Written.End gap) = h _
     spells (Written.Then gap token more) = h _
+
     reads : (R : Written) → tokens_of (after_blank c R) ≡ tokens_of R
     reads (Written.End gap) = refl
     reads (Written.Then gap token more) = refl

@@ -1,5 +1,5 @@
 -- The texts of signs, words, names, and of what stands in quotes, each as one token.
-use Rattle.std.specs.Prelude.{◌≡◌, refl, ℕ, pos, Bool, true, false, List, [], ◌∷◌, ◌++◌, map, codes, flat_map}
+use Rattle.std.specs.Prelude.{refl, Bool, true, false, [], ◌∷◌, ◌++◌, codes}
 use Rattle.std.proofs.Common.{ap, sym, ◌∙◌}
 use Rattle.std.proofs.lemmas.List.{append_assoc}
 use Rattle.std.proofs.lemmas.Str.{encodes-append}

@@ -1,6 +1,6 @@
 -- The text of printed pieces is that of the characters, escaped.
-use Rattle.std.specs.Prelude.{◌≡◌, refl, ℕ, ◌+◌, ◌*◌, ◌/◌, ◌%◌, ◌<◌, ◌≤◌, Bool, true, false, ◌||◌, if◌then◌else◌, ◌==◌, nat_lt, List, [], ◌∷◌, ◌++◌, map, codes, flat_map}
-use Rattle.std.proofs.Common.{ap, sym, ◌∙◌, subst, arith}
+use Rattle.std.specs.Prelude.{◌≡◌, refl, ℕ, ◌+◌, ◌/◌, ◌%◌, ◌<◌, ◌≤◌, Bool, true, false, ◌||◌, if◌then◌else◌, ◌==◌, nat_lt, List, [], ◌∷◌, ◌++◌, map, codes, flat_map}
+use Rattle.std.proofs.Common.{ap, sym, ◌∙◌, arith}
 use Rattle.std.proofs.lemmas.Bool.{false≢true, cases_lt}
 use Rattle.std.proofs.lemmas.List.{append_assoc, append-nil}
 use Rattle.std.proofs.lemmas.Grind.{flat_map-append}
@@ -13,9 +13,9 @@ use Rattle.qk_ast.specs.Tokens.{Piece, piece_spelling, pieces_spelling}
 use Rattle.qk_ast.proofs.FrontToken.{if_false}
 use mathlib.Core.Logic.{inl, inr}
 use Rattle.qk_ast.proofs.Pieces.{nat_is}
-use Rattle.qk_print.specs.Letters.{Text, escaped, control}
+use Rattle.qk_print.specs.Letters.{escaped}
 use Rattle.qk_print.proofs.Rewriting.{piece, control_piece}
-use Rattle.qk_print.proofs.Values_kept.{First, below, Each, among_marks}
+use Rattle.qk_print.proofs.Values_kept.{below, Each, among_marks}
 
 -- the piece spells the character, escaped
 abbrev Spells : List ℕ → Piece → ℕ → Type 0

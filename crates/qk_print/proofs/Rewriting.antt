@@ -1,5 +1,5 @@
 -- The writing that is printed for what a writing stands for.
-use Rattle.std.specs.Prelude.{ℕ, ◌+◌, ◌/◌, ◌%◌, Bool, true, false, not, ◌&&◌, ◌||◌, if◌then◌else◌, ◌==◌, nat_lt, List, [], ◌∷◌, map, Option, Some, None, codes, bytes_eq}
+use Rattle.std.specs.Prelude.{ℕ, ◌/◌, ◌%◌, Bool, true, false, not, ◌&&◌, ◌||◌, if◌then◌else◌, ◌==◌, nat_lt, List, [], ◌∷◌, map, Option, Some, None, codes, bytes_eq}
 use Rattle.std.specs.List.{list_any}
 use Rattle.qk_ast.specs.declared.Bin.{Bin}
 use Rattle.qk_ast.specs.declared.AssignOp.{AssignOp}

@@ -1,5 +1,5 @@
 -- The printed writing keeps the rules of built files.
-use Rattle.std.specs.Prelude.{◌≡◌, refl, ℕ, zero, suc, ◌==◌, ◌≤◌, Bool, true, false, not, ◌&&◌, ◌||◌, nat_le, Some, None, List, [], ◌∷◌, ◌++◌, map, codes, bytes_eq, IsTrue, IsFalse, Option}
+use Rattle.std.specs.Prelude.{◌≡◌, refl, ℕ, ◌==◌, Bool, true, false, not, ◌&&◌, ◌||◌, nat_le, Some, None, List, [], ◌∷◌, ◌++◌, map, codes, bytes_eq, IsTrue, IsFalse, Option}
 use Rattle.std.proofs.Common.{ap, sym, ◌∙◌, subst, arith}
 use Rattle.std.proofs.lemmas.Bool.{false≢true}
 use Rattle.std.specs.Char.{encode_utf8}
@@ -12,14 +12,14 @@ use Rattle.qk_ast.specs.declared.AssignOp.TheVariants as assign
 use Rattle.qk_ast.specs.Characters.{Characters, same, is_one_of}
 use Rattle.qk_ast.specs.JsxText.{jsx_text}
 use Rattle.qk_ast.specs.Tokens.{Token, piece_value, is_tag_name}
-use Rattle.qk_ast.specs.Tree.{bytes, value}
-use Rattle.qk_ast.specs.Rules.{binds, tightness, operand_tightness, level_of, is_of_level, reads_as_known, is_called_on, is_one_argument, is_place, is_member, is_target, begins_with_brace, key_of, may_be_part, part_ends_with_if, keeps, operands_keep, holes_keep, link_keeps, links_keep, arguments_keep, field_keeps, fields_keep, element_keeps, attributes_keep, children_keep, body_keeps, step_keeps, statement_keeps, statements_keep, part_keeps, items_keep, module_keeps}
-use Rattle.qk_ast.proofs.FrontToken.{left, right, same_is}
+use Rattle.qk_ast.specs.Tree.{bytes}
+use Rattle.qk_ast.specs.Rules.{binds, operand_tightness, level_of, reads_as_known, is_one_argument, is_place, is_member, is_target, begins_with_brace, key_of, keeps, operands_keep, holes_keep, link_keeps, links_keep, arguments_keep, field_keeps, fields_keep, element_keeps, attributes_keep, children_keep, body_keeps, step_keeps, statement_keeps, statements_keep, part_keeps, items_keep, module_keeps}
+use Rattle.qk_ast.proofs.FrontToken.{same_is}
 use Rattle.qk_print.proofs.Values_kept.{text_is}
 use Rattle.qk_ast.specs.Grammar.{Level, Or_level, Coalesce_level, And_level, Same_level, Order_level, Sum_level, Product_level}
-use Rattle.qk_ast.specs.Grammar.{Names, Last_name, Last_comma, Next_name, Binding, Plain, Fields_of, Bindings, No_binding, Only_binding, Binding_comma, Parameters, Bare, In_brackets, Word, Free, Taken, Expression, Undefined, Null, Truth, Number, Quoted, Named, Whole, Holed, Bracketed, Listed, Recorded, Markup, Log, Keys, Str, Trunc, Postfix, Prefix, Chain, Choice, Function, Operands, No_operand, Operand, Holes, Last_part, Part_hole, Link, Dot, Index, Call, Links, No_link, Next_link, Arguments, No_argument, Only, Comma, Field, Key, Quoted_key, Short, Fields, No_field, Only_field, Field_comma, Element, Closed, Open, Fragment, Attributes, No_attribute, Set, Set_text, Set_value, Children, No_child, Text_child, Empty_child, Value_child, Element_child, Body, Block_body, Step_body, Step, Plain_step, Assign, Bump, Statement, Const, Scope, Let, Return, Return_step, If, If_else, While, For_of, Break, Continue, Delete, Block, Do, Statements, No_statement, Then, Part, Block_part, Statement_part, Import_line, Item_line, Module_text}
-use Rattle.qk_print.proofs.Rewriting.{text_pieces, template_pieces, quoted_text, enclosed, as_head, as_operand, unless_markup, unless_record, as_right_side, as_statement, stands_plain, stands_as_head, stands_as_operand, is_recorded, is_marked_up, begins_known, is_return_link, ends_with_return, built_names, built_binding, then_bindings, built_bindings, built_parameters, then_arguments, then_fields, word_characters, text_child, value_child, opened, first_of_operands, either_way, built, built_operands, built_holes, built_link, built_links, built_arguments, built_field, built_fields, built_element, built_attributes, built_children, built_body, built_step, built_statement, built_statements, built_part, built_import, built_item, built_module}
-use Rattle.qk_ast.specs.Spelling.{Writing, ◌⨾◌, tokens, names_tokens, binding_tokens, bindings_tokens, parameters_tokens, word_tokens, un_sign, bin_sign, assign_sign, bump_sign, truth_word, scope_tokens, operands_tokens, holes_tokens, link_tokens, links_tokens, arguments_tokens, field_tokens, fields_tokens, element_tokens, attributes_tokens, children_tokens, body_tokens, step_tokens, statement_tokens, statements_tokens, part_tokens, comma, sign, name, begin, curly}
+use Rattle.qk_ast.specs.Grammar.{Parameters, Bare, In_brackets, Free, Taken, Expression, Undefined, Null, Truth, Number, Quoted, Named, Whole, Holed, Bracketed, Listed, Recorded, Markup, Log, Keys, Str, Trunc, Postfix, Prefix, Chain, Choice, Function, Operands, No_operand, Operand, Holes, Last_part, Part_hole, Link, Dot, Index, Call, Links, No_link, Next_link, Arguments, No_argument, Only, Comma, Field, Key, Quoted_key, Short, Fields, No_field, Only_field, Field_comma, Element, Closed, Open, Fragment, Attributes, No_attribute, Set, Set_text, Set_value, Children, No_child, Text_child, Empty_child, Value_child, Element_child, Body, Block_body, Step_body, Step, Plain_step, Assign, Bump, Statement, Const, Scope, Let, Return, Return_step, If, If_else, While, For_of, Break, Continue, Delete, Block, Do, Statements, No_statement, Then, Part, Block_part, Statement_part, Item_line, Module_text}
+use Rattle.qk_print.proofs.Rewriting.{enclosed, as_head, as_operand, unless_record, as_right_side, as_statement, stands_as_operand, is_recorded, is_marked_up, begins_known, built_parameters, then_arguments, then_fields, text_child, value_child, opened, first_of_operands, either_way, built, built_operands, built_holes, built_link, built_links, built_arguments, built_field, built_fields, built_element, built_attributes, built_children, built_body, built_step, built_statement, built_statements, built_part, built_item, built_module}
+use Rattle.qk_ast.specs.Spelling.{tokens, parameters_tokens, un_sign, bin_sign, truth_word, operands_tokens, element_tokens, sign}
 
 -- ---- how tightly operands and heads bind
 
@@ -108,9 +108,11 @@ known_names a h = (other (codes "console") refl (first _ _ h), other (codes "Obj
     first : (b c : Bool) → (b || c) ≡ false → b ≡ false
     first true c k = k
     first false c k = refl
+
     second : (b c : Bool) → (b || c) ≡ false → c ≡ false
     second true c k = absurd (false≢true (sym k))
     second false c k = k
+
     other : (w : Characters) → bytes_eq (bytes w) w ≡ true → bytes_eq (bytes a) w ≡ false → same a w ≡ false
     other w k n = choose (same a w) refl
       where

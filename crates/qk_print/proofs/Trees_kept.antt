@@ -1,9 +1,6 @@
 -- The printed writing stands for the same tree.
-use Rattle.std.specs.Prelude.{◌≡◌, refl, ℕ, ◌+◌, Bool, true, false, Some, None, List, [], ◌∷◌, map, codes}
-use Rattle.std.proofs.Common.{ap, sym, ◌∙◌, arith}
-use Rattle.qk_ast.specs.declared.Module.{Module}
-use Rattle.qk_ast.specs.declared.Import.{Import}
-use Rattle.qk_ast.specs.declared.Item.{Item}
+use Rattle.std.specs.Prelude.{◌≡◌, refl, ℕ, ◌+◌, Bool, true, false, Some, List, [], ◌∷◌, map, codes}
+use Rattle.std.proofs.Common.{ap, ◌∙◌, arith}
 use Rattle.qk_ast.specs.declared.Expr.TheVariants as e
 use Rattle.qk_ast.specs.declared.Stmt.TheVariants as s
 use Rattle.qk_ast.specs.declared.Link.TheVariants as l
@@ -16,13 +13,13 @@ use Rattle.qk_ast.specs.declared.AssignOp.{AssignOp}
 use Rattle.qk_ast.specs.declared.AssignOp.TheVariants as assign
 use Rattle.qk_ast.specs.Characters.{Characters}
 use Rattle.qk_ast.specs.JsxText.{jsx_text, decoded}
-use Rattle.qk_ast.specs.Tokens.{Piece, piece_value, Token}
-use Rattle.qk_ast.specs.Tree.{bytes, value, arrows, tree, operands_tree, holes_tree, link_tree, links_tree, arguments_tree, field_tree, fields_tree, element_tree, attributes_tree, children_tree, body_tree, step_tree, statement_tree, statements_tree, part_tree, names_tree, binding_tree, bindings_tree, parameters_tree, parts_tree, before_children, tag_tree, word_text, import_tree, items_tree, module_tree}
-use Rattle.qk_print.proofs.Arrows_kept.{within, alike, operands_alike, holes_alike, link_alike, links_alike, arguments_alike, field_alike, fields_alike, element_alike, attributes_alike, children_alike, body_alike, step_alike, statement_alike, statements_alike, part_alike}
+use Rattle.qk_ast.specs.Tokens.{piece_value, Token}
+use Rattle.qk_ast.specs.Tree.{bytes, arrows, tree, operands_tree, holes_tree, link_tree, links_tree, arguments_tree, field_tree, fields_tree, element_tree, attributes_tree, children_tree, body_tree, step_tree, statement_tree, statements_tree, part_tree, names_tree, binding_tree, bindings_tree, parameters_tree, parts_tree, before_children, tag_tree, word_text, import_tree, items_tree, module_tree}
+use Rattle.qk_print.proofs.Arrows_kept.{within, alike, link_alike, field_alike, element_alike, attributes_alike, statement_alike, part_alike}
 use Rattle.qk_print.proofs.Values_kept.{text_is, template_is}
 use Rattle.qk_ast.specs.Grammar.{Names, Last_name, Last_comma, Next_name, Binding, Plain, Fields_of, Bindings, No_binding, Only_binding, Binding_comma, Parameters, Bare, In_brackets, Word, Free, Taken, Expression, Undefined, Null, Truth, Number, Quoted, Named, Whole, Holed, Bracketed, Listed, Recorded, Markup, Log, Keys, Str, Trunc, Postfix, Prefix, Chain, Choice, Function, Operands, No_operand, Operand, Holes, Last_part, Part_hole, Link, Dot, Index, Call, Links, No_link, Next_link, Arguments, No_argument, Only, Comma, Field, Key, Quoted_key, Short, Fields, No_field, Only_field, Field_comma, Element, Closed, Open, Fragment, Attributes, No_attribute, Set, Set_text, Set_value, Children, No_child, Text_child, Empty_child, Value_child, Element_child, Body, Block_body, Step_body, Step, Plain_step, Assign, Bump, Statement, Const, Scope, Let, Return, Return_step, If, If_else, While, For_of, Break, Continue, Delete, Block, Do, Statements, No_statement, Then, Part, Block_part, Statement_part, Import_line, Item_line, Module_text}
-use Rattle.qk_print.proofs.Rewriting.{text_pieces, template_pieces, quoted_text, enclosed, as_head, as_operand, unless_markup, unless_record, as_right_side, as_statement, stands_plain, stands_as_head, stands_as_operand, is_recorded, is_marked_up, begins_known, is_return_link, ends_with_return, built_names, built_binding, then_bindings, built_bindings, built_parameters, then_arguments, then_fields, word_characters, text_child, value_child, opened, first_of_operands, either_way, built, built_operands, built_holes, built_link, built_links, built_arguments, built_field, built_fields, built_element, built_attributes, built_children, built_body, built_step, built_statement, built_statements, built_part, built_import, built_item, built_module}
-use Rattle.qk_ast.specs.Spelling.{Writing, ◌⨾◌, tokens, names_tokens, binding_tokens, bindings_tokens, parameters_tokens, word_tokens, un_sign, bin_sign, assign_sign, bump_sign, truth_word, scope_tokens, operands_tokens, holes_tokens, link_tokens, links_tokens, arguments_tokens, field_tokens, fields_tokens, element_tokens, attributes_tokens, children_tokens, body_tokens, step_tokens, statement_tokens, statements_tokens, part_tokens, comma, sign, name, begin, curly}
+use Rattle.qk_print.proofs.Rewriting.{enclosed, as_right_side, built_names, built_binding, then_bindings, built_bindings, built_parameters, then_arguments, then_fields, word_characters, text_child, value_child, opened, either_way, built, built_operands, built_holes, built_link, built_links, built_arguments, built_field, built_fields, built_element, built_attributes, built_children, built_body, built_step, built_statement, built_statements, built_part, built_import, built_item, built_module}
+use Rattle.qk_ast.specs.Spelling.{◌⨾◌, tokens, field_tokens, attributes_tokens, statements_tokens, curly}
 
 ap2 : {A B C : Type 0} (f : A → B → C) {a a' : A} {b b' : B} → a ≡ a' → b ≡ b' → f a b ≡ f a' b'
 ap2 f {a' = a'} {b = b} h k = ap (λ x. f x b) h ∙ ap (f a') k

@@ -1,6 +1,6 @@
 -- A printed piece stands for its character, and a printed text for its characters.
 use Rattle.std.specs.Prelude.{◌≡◌, refl, ℕ, zero, suc, ◌<◌, Bool, true, false, ◌||◌, if◌then◌else◌, ◌==◌, nat_lt, List, [], ◌∷◌, map, codes}
-use Rattle.std.proofs.Common.{ap, sym, ◌∙◌, subst, arith}
+use Rattle.std.proofs.Common.{ap, ◌∙◌, subst, arith}
 use Rattle.std.specs.List.{list_any}
 use Rattle.qk_ast.specs.Characters.{Characters}
 use Rattle.qk_ast.specs.Tokens.{Piece, piece_value}

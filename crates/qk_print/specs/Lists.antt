@@ -1,11 +1,11 @@
 -- The texts of lists: of what the tree holds in a list, each item's text in order.
-use Rattle.std.specs.Prelude.{Bool, false, List, [], ◌∷◌, ◌++◌, map, flat_map, codes}
+use Rattle.std.specs.Prelude.{Bool, false, List, [], ◌∷◌, map}
 use Rattle.qk_ast.specs.declared.Expr.{Expr}
 use Rattle.qk_ast.specs.declared.Stmt.{Stmt}
 use Rattle.qk_ast.specs.declared.Link.{Link}
 use Rattle.qk_ast.specs.declared.Field.{Field}
 use Rattle.qk_ast.specs.declared.Operand.{Operand}
-use Rattle.qk_print.specs.Letters.{Text, between, commas, bin_sign}
+use Rattle.qk_print.specs.Letters.{Text, commas}
 use Rattle.qk_print.specs.Shapes.{is_return}
 use Rattle.qk_print.specs.Printing.{Printed, Keyed, Operated, expression_text, statement_text, block_text}
 

@@ -1,5 +1,5 @@
 -- Which expressions stand without parentheses, and where.
-use Rattle.std.specs.Prelude.{ℕ, Bool, true, false, not, ◌&&◌, ◌||◌, List, [], ◌∷◌, Option, Some, None, codes, bytes_eq}
+use Rattle.std.specs.Prelude.{Bool, true, false, not, ◌&&◌, ◌||◌, Option, Some, codes, bytes_eq}
 use Rattle.qk_ast.specs.declared.Expr.{Expr, Row_of-Link, end_of-Link, more_of-Link}
 use Rattle.qk_ast.specs.declared.Link.{Link}
 use Rattle.qk_ast.specs.declared.Bin.{Bin}

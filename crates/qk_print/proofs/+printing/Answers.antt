@@ -1,9 +1,9 @@
-use Rattle.std.proofs.Common.{rules, arith, not, ◌≡◌, ◌++◌, None, map, flat_map, codes, ap, sym, ◌∙◌, refl}
+use Rattle.std.proofs.Common.{rules, arith, not, map, codes, ap, ◌∙◌}
 use Rattle.std.proofs.lemmas.Grind.{common_steps}
-use Rattle.qk_print.specs.Letters.{braced, commas, parts_and_holes, unless_bare}
+use Rattle.qk_print.specs.Letters.{commas, unless_bare}
 use Rattle.qk_print.specs.Shapes.{is_markup}
-use Rattle.qk_print.specs.Printing.{expression_text, statement_text, link_text, body_text, jsx_text, operand_text, operands_text, field_text, attribute_text, child_text, hole_text, element_text, named_text, content_text, known_front, known_arguments, first_operator, else_text}
-use Rattle.qk_print.specs.Lists.{printed_of, keyed_of, operated_of, expressions_text, statements_text}
+use Rattle.qk_print.specs.Printing.{expression_text, statement_text, link_text, body_text, attribute_text, child_text, element_text}
+use Rattle.qk_print.specs.Lists.{printed_of, keyed_of}
 use Rattle.qk_ast.specs.declared.Jsx.{out-Jsx}
 use Rattle.qk_print.proofs.Equations.{text_of_list, text_of_record, text_of_template, text_of_unary, text_of_chain, text_of_choice, text_of_post, text_of_assign, text_of_step, text_of_known, text_of_arrow, text_of_markup, text_of_call, text_of_jsx, texts_are, text_of_value, text_of_body, text_of_if, text_of_while, text_of_for, text_of_block}
 use Rattle.qk_print.proofs.Fronts.{begins_with, begins_after, begins_at_last, on_any_err, after_two}

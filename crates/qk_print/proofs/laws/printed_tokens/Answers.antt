@@ -1,8 +1,7 @@
-use Rattle.std.specs.Prelude.{[], None, map}
-use Rattle.std.proofs.Common.{refl, ap, sym, subst, ◌∙◌, arith}
+use Rattle.std.specs.Prelude.{[], None}
+use Rattle.std.proofs.Common.{ap, sym, subst, ◌∙◌, arith}
 use Rattle.std.proofs.lemmas.List.{append-nil}
 use Rattle.qk_ast.specs.Tokens.{Written}
-use Rattle.qk_ast.specs.Spelling.{module_tokens}
 use Rattle.qk_print.specs.Printing.{print_text}
 use Rattle.qk_print.proofs.Rewriting.{built_module}
 use Rattle.qk_print.proofs.Trees_kept.{same_module}

@@ -1,4 +1,4 @@
-use Rattle.std.proofs.Common.{◌≡◌, ap, sym, ◌∙◌, length, ◌-◌, ◌<◌, ℕ, List, [], ◌∷◌, get_or, arith, refl}
+use Rattle.std.proofs.Common.{◌≡◌, ap, sym, ◌∙◌, length, ◌-◌, ◌<◌, List, [], ◌∷◌, get_or, arith, refl}
 use Rattle.qk_ast.specs.declared.Link.{Link}
 use Rattle.qk_print.specs.Shapes.{is_return}
 use Rattle.qk_print.specs.Lists.{last_is_return}
