@@ -1,0 +1,17 @@
+pub mod Equations
+pub mod Examples
+pub mod Fronts
+pub mod Rewriting
+pub mod Arrows_kept
+pub mod Values_kept
+pub mod Trees_kept
+pub mod Rules_kept
+pub mod Nesting_kept
+pub mod Laying
+pub mod Quoting
+pub mod Lettering
+pub mod Standing_kept
+pub mod Laid_parts
+pub mod Laid
+pub mod Laid_modules
+pub mod Integers

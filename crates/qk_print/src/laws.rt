@@ -1,0 +1,9 @@
+//! A law of the printed text: the contract of a function that does nothing.
+
+ghost use Rattle.qk_print.specs.Laws.{PrintedTokens};
+
+/// The printed text of a module that a source derives is made of tokens, with gaps between, that derive the module as a built file, and nests no
+/// deeper than built files may.
+pub fn printed_tokens()
+    ensures { PrintedTokens }
+{}
