@@ -1,6 +1,6 @@
 //! Templates with holes.
 
-ghost use Rattle.std.specs.Prelude.{◌≡◌, ◌∷◌, []};
+ghost use Rattle.std.specs.Prelude.{◌≡◌, suc, [], ◌∷◌};
 ghost use Rattle.qk_reading.specs.Input as input;
 ghost use Rattle.qk_reading.specs.Parts as parts;
 ghost use Rattle.qk_reading.specs.Forms as forms;
@@ -56,12 +56,12 @@ impl<
     #[tactic(auto, unfolding(qk_reading::specs::Forms::holes_from))]
     fn filled(&self, tokens: &mut Tokens<'_, '_>, first: Text) -> Result<Filled, Fault>
         requires values { Values self.now.form self.now.room (V.pre self.now.value) (V.post self.now.value) }
-        ensures { ReadsAs filled_of (forms.holes_from self.now.form self.now.room (nesting self.now.form self.now.room) (input.left tokens.old) (first ∷ []) [] tokens.old) result tokens.new }
+        ensures { ReadsAs filled_of (forms.holes_from self.now.form self.now.room (nesting self.now.form self.now.room) (suc (input.left tokens.old)) (first ∷ []) [] tokens.old) result tokens.new }
     {
         let mut parts = Builder::new(self.alloc);
         parts.push(first)?;
         let mut values = Builder::new(self.alloc);
-        for _turn in 0..tokens.left() {
+        for _turn in 0..tokens.left() + 1 {
             values.push(self.nested(tokens)?)?;
             let part = part(self.alloc, tokens)?;
             parts.push(part.text)?;

@@ -262,5 +262,5 @@ module _ (D : Type 0) (form : Form) where
   holed_heads ps x more h k room n m rest d e u =
       let m1 = n + arrows (tokens x) in
       let count = counted (framed x) (holes_tokens more []) in
-      reach_then _ (reach_then _ (reach_then _ (k room m1 m (length (tokens x (holes_tokens more rest))) (value ps ∷ []) [] x n rest h
+      reach_then _ (reach_then _ (reach_then _ (k room m1 m (suc (length (tokens x (holes_tokens more rest)))) (value ps ∷ []) [] x n rest h
       (λ l. d (omega (arith, l, le-max_left (inside (depth x)) (holes_depth more)))) refl (λ l. d (omega (arith, l, le-max_right (inside (depth x)) (holes_depth more)))) (omega (arith, e, count)) (omega arith)) reached) reached) reached

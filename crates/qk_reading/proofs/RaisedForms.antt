@@ -121,7 +121,7 @@ module _ (form : Form) (room : ℕ) (inner : Nested) (g : IsGood room inner) whe
 
   good_holes : (text : List ℕ) (i : Input) → Good room i (holes form room inner text i)
   unfolding holes
-  good_holes text i = good_then (good_holes_from (length i.tokens) (text ∷ []) [] i) (λ xs j. fine here)
+  good_holes text i = good_then (good_holes_from (suc (length i.tokens)) (text ∷ []) [] i) (λ xs j. fine here)
 
   good_bracketed : (i : Input) → Good room i (bracketed form room inner i)
   unfolding bracketed

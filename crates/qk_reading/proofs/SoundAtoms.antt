@@ -100,7 +100,7 @@ module _ (form : Form) (room : ℕ) (inner : Nested) (nested_sound : (i : Input)
 
     holes_read : (ps : List Piece) (ts : List Token) (n : ℕ) → Sound (λ x j. Atom_read (at (Token.Template Edge.Backquote ps Edge.Hole ∷ ts) n) (atomic x) j) (holes form room inner (value ps) (at ts n))
     unfolding holes
-    holes_read ps ts n = sound_then (holes_from_sound (length ts) (value ps ∷ []) [] (at ts n)) (λ r j t.
+    holes_read ps ts n = sound_then (holes_from_sound (suc (length ts)) (value ps ∷ []) [] (at ts n)) (λ r j t.
         let sp : Spans (one (Token.Template Edge.Backquote ps Edge.Hole)) (at (Token.Template Edge.Backquote ps Edge.Hole ∷ ts) n) (at ts n) = record { spelt = refl; count = omega arith } in
         let f = t.flat.0 in
         let g = t.flat.1 in

@@ -71,7 +71,7 @@ module _ (form : Form) (room : ℕ) (inner : Nested) where
     if text.1 then holes_from n (parts ++ text.0 ∷ []) (values ++ x ∷ []) else pure (parts ++ text.0 ∷ [], values ++ x ∷ [])
 
   unfoldable pub holes : List ℕ → Reader Expr
-  holes text i = ((λ (xs : List (List ℕ) × List Expr). e.Template xs.0 xs.1) <$> holes_from (left i) (text ∷ []) []) i
+  holes text i = ((λ (xs : List (List ℕ) × List Expr). e.Template xs.0 xs.1) <$> holes_from (suc (left i)) (text ∷ []) []) i
 
   -- ---- atoms
 

@@ -143,7 +143,8 @@ impl<'s, 't> Tokens<'s, 't> {
 
     /// How many tokens are left.
     pub fn left(&self) -> usize
-        ensures { result ≡ spec.left self.now }
+        ensures left { result ≡ spec.left self.now }
+        ensures few { result < 2 ^ 32 }
     {
         self.rest.len()
     }
