@@ -311,15 +311,11 @@ fn tries_the_length_of_a_source(rt: HostRuntime) -> Result<(), Fail> {
         root.push(b' ')?;
     }
     let (out, status) = refusal(alloc, root.as_slice())?;
-    assert_eq!(rt;
-        (out.bytes(), status),
-        (b"refused NotBuilt root -\n".as_slice(), 2)
-    );
+    assert_eq!(rt; out.bytes(), b"refused NotBuilt root -\n".as_slice());
+    assert_eq!(rt; status, 2);
     root.push(b' ')?;
     let (out, status) = refusal(alloc, root.as_slice())?;
-    assert_eq!(rt;
-        (out.bytes(), status),
-        (b"refused TooLong root 1:1\n".as_slice(), 2)
-    );
+    assert_eq!(rt; out.bytes(), b"refused TooLong root 1:1\n".as_slice());
+    assert_eq!(rt; status, 2);
     Ok(())
 }
