@@ -1,4 +1,5 @@
 //! JSX elements.
+#![tactic(auto, using(crate::proofs::Fronts::begins_same, crate::proofs::Fronts::begins_with, crate::proofs::Fronts::begins_after))]
 
 ghost use Rattle.std.specs.Prelude.{◌≡◌, ◌++◌, OnOk, OnErr, IfSome, IfNone, map, flat_map, List, ℕ};
 ghost use Rattle.qk_ast.specs.declared.Tag.TheVariants.{Fragment};

@@ -1,4 +1,5 @@
 //! Expressions.
+#![tactic(auto, using(crate::proofs::Fronts::begins_same, crate::proofs::Fronts::begins_with, crate::proofs::Fronts::begins_after))]
 
 ghost use Rattle.std.specs.Prelude.{◌≡◌, ◌++◌, OnOk, OnErr, IfOk, None, List, ℕ, ◌∷◌, map, flat_map, codes};
 ghost use Rattle.qk_print.specs.Growing.{Begins};

@@ -1,5 +1,5 @@
 //! The printer of modules: the text of a module as built files have it.
-#![tactic(auto, using(crate::proofs::Fronts::begins_same, crate::proofs::Fronts::begins_with, crate::proofs::Fronts::begins_after))]
+#![tactic(auto)]
 
 mod elements;
 mod expressions;

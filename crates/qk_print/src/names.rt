@@ -1,4 +1,5 @@
 //! Names and patterns between commas.
+#![tactic(auto, using(crate::proofs::Fronts::begins_same, crate::proofs::Fronts::begins_with, crate::proofs::Fronts::begins_after))]
 
 ghost use Rattle.std.specs.Prelude.{◌≡◌, ◌++◌, OnOk, OnErr, map};
 ghost use Rattle.qk_print.specs.Growing.{Begins};

@@ -1,3 +1,5 @@
+#![tactic(auto, using(crate::proofs::Fronts::begins_same, crate::proofs::Fronts::begins_with, crate::proofs::Fronts::begins_after))]
+
 ghost use Rattle.std.specs.Prelude.{◌≡◌, ◌++◌, OnOk, OnErr, flat_map};
 ghost use Rattle.qk_print.specs.Growing.{Begins};
 ghost use Rattle.qk_print.specs.Printing.{import_text, item_text, export_text, print_text};

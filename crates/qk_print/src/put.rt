@@ -1,4 +1,5 @@
 //! Texts, numbers, names and signs.
+#![tactic(auto, using(crate::proofs::Fronts::begins_same, crate::proofs::Fronts::begins_with, crate::proofs::Fronts::begins_after))]
 
 ghost use Rattle.std.specs.Prelude.{◌≡◌, ◌++◌, ◌<◌, OnOk, OnErr, flat_map, map, codes};
 ghost use Rattle.std.specs.Fmt.{signed_decimal};

@@ -1,4 +1,5 @@
 //! Which expressions stand without parentheses, and where.
+#![tactic(auto, using(crate::proofs::Fronts::begins_same, crate::proofs::Fronts::begins_with, crate::proofs::Fronts::begins_after))]
 
 ghost use Rattle.std.specs.Prelude.{◌≡◌, ◌||◌, ◌&&◌, not, codes, bytes_eq};
 ghost use Rattle.qk_print.specs.Lists.{last_is_return};
