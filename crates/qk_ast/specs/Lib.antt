@@ -9,4 +9,16 @@ pub mod Rules
 pub mod Derives
 pub mod First
 pub mod Faults
+pub mod Texts
+pub mod Names
+pub mod Arrows
+pub mod Uses
+pub mod Framework
+pub mod Scopes
+pub mod Mentions
+pub mod Naming
+pub mod Sources
+pub mod Spots
+pub mod Tags
+pub mod Placing
 pub mod Laws

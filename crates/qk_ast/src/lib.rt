@@ -12,6 +12,38 @@ pub enum Form {
     Built,
 }
 
+/// How a name breaks the rules of names. At one place the first of these counts.
+#[derive(Clone, Copy, Debug, PartialEq, Eq)]
+pub enum ScopeKind {
+    /// A name without a declaration.
+    UnknownName,
+    /// A second declaration in one scope, or a declared name that is taken.
+    DuplicateName,
+    /// A `let` that is used inside an arrow within its scope.
+    LetCaptured,
+    /// An assignment to a name that is no `let`.
+    ConstAssigned,
+    /// A local that is used before the end of its declaration.
+    EarlyUse,
+}
+
+/// How something breaks the rules of places. At one place the first of these counts.
+#[derive(Clone, Copy, Debug, PartialEq, Eq)]
+pub enum RuleKind {
+    /// A hook, a context id's name or `track` out of its place.
+    HookPlace,
+    /// A call of a dollar name with something other than one arrow, or with an arrow of other parameters.
+    DollarArgument,
+    /// A root initialiser of another form, or a framework name used otherwise.
+    RootValue,
+    /// A capital tag that is no component, or a component that is no tag.
+    NotComponent,
+    /// A tag or an attribute that breaks a rule of tags.
+    TagRefused,
+    /// More than 4,096 dollar sites in a module.
+    TooManySites,
+}
+
 #[derive(Drop)]
 pub struct Module {
     pub imports: List<Import>,
@@ -166,4 +198,32 @@ pub struct Jsx {
     pub tag: Tag,
     pub attrs: List<Field>,
     pub children: List<Expr>,
+}
+
+/// Where an imported name comes from: the framework, or a module and its name there.
+#[derive(Drop)]
+pub enum Origin {
+    Qwik(Text),
+    Module(Text, Text),
+}
+
+/// An imported name and its origin.
+#[derive(Drop)]
+pub struct Imported {
+    pub name: Text,
+    pub origin: Origin,
+}
+
+/// The imported names of a module, in the order of its text.
+#[derive(Drop)]
+pub struct ImportTable {
+    pub entries: List<Imported>,
+}
+
+/// An arrow of a module or built file, by its number among the dollar arrows or among the plain ones there, from 1.
+#[derive(Drop)]
+pub struct Site {
+    pub module: Text,
+    pub number: u32,
+    pub dollar: bool,
 }

@@ -6,7 +6,7 @@ use Rattle.qk_ast.specs.declared.Jsx.{Jsx}
 use Rattle.qk_ast.specs.declared.Tag.{Tag}
 use Rattle.qk_meaning.specs.Value.{Text, Site, Element, Value, Fields, Undefined, Int, Words, Ref, Elem, Closure, end, field}
 use Rattle.qk_meaning.specs.World.{Object, Props, Signal, Loc, Step, Instance, Kept}
-use Rattle.qk_meaning.specs.Texts.{same_text}
+use Rattle.qk_ast.specs.Texts.{same_text}
 use Rattle.qk_meaning.specs.Same.{weight, weight_of_named, depth, depth_of_named}
 use Rattle.qk_meaning.specs.Parts.{packed, value_at, found, replaced}
 use Rattle.qk_meaning.specs.Markup as Markup

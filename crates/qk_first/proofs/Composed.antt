@@ -27,7 +27,7 @@ use Rattle.qk_ast.specs.JsxText.{decoded}
 use Rattle.qk_ast.specs.Tree.{module_tree, names_tree, statements_tree, element_tree, attributes_tree, tag_tree}
 use Rattle.qk_ast.specs.First.{First_text, First_attribute, Id, On_click, Shape, Empty, Shown, Fits, module_of, block_of, element_of, attributes_of, names_of, are_qwik_names, qwik_names, attribute_name, attributes_fit}
 use Rattle.qk_meaning.specs.Value.{Text}
-use Rattle.qk_meaning.specs.Texts.{digits_before}
+use Rattle.qk_ast.specs.Texts.{digits_before}
 use Rattle.qk_first.specs.Counter.{Counter, is_shown, listener, first_output}
 use Rattle.qk_first.specs.Shape.{import_of, app_of, signal_of, return_of, value_in, listener_of, IsId, IsListener, AreAttributes, AreChildren, IsElement, is_import, MayStand}
 use Rattle.qk_first.specs.declared.shape.Counter.{Counter as Kept}

@@ -4,7 +4,7 @@ use Rattle.std.proofs.Common.{ap, ◌∙◌, arith}
 use Rattle.std.proofs.Math.Nat.{pow-suc}
 use Rattle.std.proofs.lemmas.Bool.{le-leb, ltb-true}
 use Rattle.qk_ast.specs.Characters.{Characters, is_digit, digit_value, number_after}
-use Rattle.qk_meaning.specs.Texts.{digits_before}
+use Rattle.qk_ast.specs.Texts.{digits_before}
 use Rattle.qk_first.proofs.Texts.{both}
 
 digit_is : (d : ℕ) → d < 10 → digit_value (48 + d) ≡ d

@@ -7,10 +7,12 @@ use Rattle.std.proofs.lemmas.Bool.{le-leb}
 use Rattle.qk_ast.specs.Characters.{Characters, is_one_of, every, is_small_letter}
 use Rattle.qk_ast.specs.First.{First_attribute, first_tags}
 use Rattle.qk_meaning.specs.Value.{Text, Value, Ref, Closure, Fields, end, field}
-use Rattle.qk_meaning.specs.Texts.{same_text, integer_text}
+use Rattle.qk_ast.specs.Texts.{same_text}
+use Rattle.qk_meaning.specs.Texts.{integer_text}
 use Rattle.qk_meaning.specs.Expansion.{Tagged, Inside, Nodes, no_nodes, node, joined, text_nodes}
 use Rattle.qk_meaning.specs.Html as Html
-use Rattle.qk_meaning.specs.Html.{written, text_char, html, nodes_count, closed, void_tags}
+use Rattle.qk_ast.specs.Framework.{void_tags}
+use Rattle.qk_meaning.specs.Html.{written, text_char, html, nodes_count, closed}
 use Rattle.qk_meaning.specs.Tree as Found
 use Rattle.qk_meaning.specs.Tree.{heard_by, listener_among, first_with, shows_id, names_event}
 use Rattle.qk_meaning.specs.Hooks.{or_else}

@@ -12,8 +12,8 @@ use Rattle.qk_ast.specs.Grammar.{Names, Last_name, Last_comma, Next_name}
 use Rattle.qk_ast.specs.Tree.{names_tree}
 use Rattle.qk_ast.specs.First.{names_of, are_qwik_names, qwik_names}
 use Rattle.qk_meaning.specs.Value.{Text}
-use Rattle.qk_meaning.specs.Texts.{same_text}
-use Rattle.qk_meaning.specs.Names.{is_listed}
+use Rattle.qk_ast.specs.Texts.{same_text}
+use Rattle.qk_ast.specs.Names.{is_listed}
 use Rattle.qk_first.proofs.Texts.{left, right, either, among, same_is, text_own, IsWord}
 
 pub text_is : (a b : Text) → bytes_eq a b ≡ true → a ≡ b

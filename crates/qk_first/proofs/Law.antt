@@ -11,7 +11,7 @@ use Rattle.qk_ast.specs.Rules.{is_distinct}
 use Rattle.qk_ast.specs.First.{First_attribute, Shape, Selfclosing, Empty, Shown, names_of, are_qwik_names, attribute_name, state_fits}
 use Rattle.qk_meaning.specs.Value.{Text, Site, Value, Int, Ref, Closure, Fields, end, field}
 use Rattle.qk_meaning.specs.World.{Object, Props, Signal, Loc, Hook, Kept}
-use Rattle.qk_meaning.specs.Names.{is_listed}
+use Rattle.qk_ast.specs.Names.{is_listed}
 use Rattle.qk_meaning.specs.Program.{Program, Code, captures_in}
 use Rattle.qk_meaning.specs.Doing.{Gives}
 use Rattle.qk_meaning.specs.Running.{Running, Mode, Pure, Effect, At_site, Entered, Happening, Hooking, Mounting, Again}

@@ -3,7 +3,7 @@ use Rattle.std.specs.Prelude.{◌≡◌, ℕ, suc, ℤ, pos, ◌+ℤ◌, ◌-ℤ
 use Rattle.qk_meaning.specs.Value.{Text, Site, Value, Int, Ref, end, field}
 use Rattle.std.proofs.Common.{ap}
 use Rattle.qk_meaning.specs.World.{Key, Props, Signal, Loc, Prop}
-use Rattle.qk_meaning.specs.Texts.{same_text}
+use Rattle.qk_ast.specs.Texts.{same_text}
 use Rattle.qk_meaning.specs.Parts.{value_at, found}
 use Rattle.qk_meaning.specs.Same.{same_integer}
 use Rattle.qk_meaning.specs.Program.{Program, Code}

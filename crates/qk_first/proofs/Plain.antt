@@ -6,7 +6,8 @@ use lib.Dec.{eqb→eq, eqb, leb, T}
 use Rattle.std.proofs.lemmas.Bool.{le-leb, false≢true, ltb-true}
 use Rattle.qk_ast.specs.Characters.{every, is_within, is_small_letter}
 use Rattle.qk_meaning.specs.Value.{Text}
-use Rattle.qk_meaning.specs.Texts.{digits_before, integer_text}
+use Rattle.qk_ast.specs.Texts.{digits_before}
+use Rattle.qk_meaning.specs.Texts.{integer_text}
 use Rattle.qk_meaning.specs.Html.{written, text_char, attribute_char}
 use Rattle.qk_meaning.specs.Output.{printed_char}
 use Rattle.qk_first.proofs.Texts.{left, right, both, denied}

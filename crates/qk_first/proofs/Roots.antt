@@ -4,12 +4,13 @@ use Rattle.std.proofs.Common.{ap}
 use Rattle.std.proofs.lemmas.Bool.{false≢true}
 use Rattle.qk_ast.specs.First.{First_attribute, Id, On_click}
 use Rattle.qk_meaning.specs.Value.{Text, Component}
-use Rattle.qk_meaning.specs.Names.{is_listed, those_of, each_once}
+use Rattle.qk_ast.specs.Names.{is_listed, those_of, each_once}
 use Rattle.qk_meaning.specs.Program.{Root, Framework, Shows}
-use Rattle.qk_meaning.specs.Arrows.{Marked}
-use Rattle.qk_meaning.specs.Sites.{Named_module, site_of, code_of, code_from}
+use Rattle.qk_ast.specs.Arrows.{Marked}
+use Rattle.qk_ast.specs.Sources.{Named_module}
+use Rattle.qk_meaning.specs.Sites.{site_of, code_of, code_from}
 use Rattle.qk_meaning.specs.Roots.{root_of}
-use Rattle.qk_meaning.specs.Uses.{free_of}
+use Rattle.qk_ast.specs.Uses.{free_of}
 use Rattle.qk_meaning.specs.Readings.{program_of, app_of}
 use Rattle.qk_meaning.specs.Making.{root_shown}
 use Rattle.qk_first.proofs.Words.{root, component_site, listener_site, first_module, body_of, element, bump}

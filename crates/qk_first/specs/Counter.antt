@@ -3,7 +3,8 @@ use Rattle.std.specs.Prelude.{ℕ, suc, ℤ, pos, ◌+ℤ◌, ◌-ℤ◌, Bool, 
 use Rattle.qk_ast.specs.Characters.{Characters, number_after}
 use Rattle.qk_ast.specs.First.{First_text, First_attribute, Id, On_click, Shape, Shown}
 use Rattle.qk_meaning.specs.Value.{Text}
-use Rattle.qk_meaning.specs.Texts.{same_text, decimal, integer_text}
+use Rattle.qk_ast.specs.Texts.{same_text, decimal}
+use Rattle.qk_meaning.specs.Texts.{integer_text}
 use Rattle.qk_meaning.specs.Item.{Event}
 use Rattle.qk_meaning.specs.Output.{line}
 

@@ -4,7 +4,7 @@ use lib.Dec.{ltb}
 use lib.Signed.{mag}
 use Rattle.std.specs.Fmt as fmt
 use Rattle.std.proofs.lemmas.Fmt.{PrependsLastDigit, decimal_from_prepends, length-decimal-le}
-use Rattle.qk_meaning.specs.Texts.{digits_before, decimal}
+use Rattle.qk_ast.specs.Texts.{digits_before, decimal}
 use Rattle.qk_top.specs.Decimals.{count_text, number_text}
 
 below_ten : (n : ℕ) → n < 10 → ltb n 10 ≡ true

@@ -8,7 +8,7 @@ use Rattle.qk_meaning.specs.Fault.{Fault}
 use Rattle.qk_meaning.specs.Doing.{Outcome, Gives, Faults, Ends}
 use Rattle.qk_meaning.specs.Running.{Running, Mode, Effect, Pure}
 use Rattle.qk_meaning.specs.Evaluation.{entering}
-use Rattle.qk_meaning.specs.Sites.{Named_module}
+use Rattle.qk_ast.specs.Sources.{Named_module}
 use Rattle.qk_meaning.specs.Readings.{program_of}
 use Rattle.qk_meaning.specs.Session.{session_in, nothing_yet}
 use Rattle.qk_meaning.specs.Item.{Limits}

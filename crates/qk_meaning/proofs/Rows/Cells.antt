@@ -1,7 +1,7 @@
 -- Twenty cells from another module.
 use Rattle.std.specs.Prelude.{◌≡◌, refl, true, false, List, [], ◌∷◌, codes, None}
 use Rattle.qk_ast.specs.declared.Module.{Module}
-use Rattle.qk_meaning.specs.Sites.{Named_module}
+use Rattle.qk_ast.specs.Sources.{Named_module}
 use Rattle.qk_meaning.specs.Run.{Line, Happens, Pauses}
 use Rattle.qk_meaning.proofs.Rows.Trees.{int, name, text, list_of, post, dot, call, step, gives, block, plain, arrow, element, component, const, give_back, importing, item}
 use Rattle.qk_meaning.proofs.Rows.Common.{usual, printed, lines_of}

@@ -1,7 +1,7 @@
 -- A Slot with a name, and a context whose value is a signal.
 use Rattle.std.specs.Prelude.{◌≡◌, refl, true, List, [], ◌∷◌, codes}
 use Rattle.qk_ast.specs.declared.Module.{Module}
-use Rattle.qk_meaning.specs.Sites.{Named_module}
+use Rattle.qk_ast.specs.Sources.{Named_module}
 use Rattle.qk_meaning.specs.Run.{Line}
 use Rattle.qk_meaning.proofs.Rows.Trees.{name, text, post, dot, call, gives, block, plain, arrow, element, component, const, do_it, give_back, importing, item}
 use Rattle.qk_meaning.proofs.Rows.Common.{usual, printed, lines_of}

@@ -2,7 +2,7 @@
 use Rattle.std.specs.Prelude.{◌≡◌, refl, true, List, [], ◌∷◌, codes, None}
 use Rattle.qk_ast.specs.declared.Module.{Module}
 use Rattle.qk_meaning.specs.Value.{Text}
-use Rattle.qk_meaning.specs.Sites.{Named_module}
+use Rattle.qk_ast.specs.Sources.{Named_module}
 use Rattle.qk_meaning.specs.Run.{Line, Happens}
 use Rattle.qk_meaning.proofs.Rows.Trees.{int, name, text, list_of, post, dot, call, step, gives, block, plain, scope, arrow, element, const, give_back, importing, item}
 use Rattle.qk_meaning.proofs.Rows.Common.{usual, printed, printed_captured, printed_built, lines_of, last_page, last_page_captured, last_page_built}

@@ -2,7 +2,7 @@
 use Rattle.std.specs.Prelude.{◌≡◌, refl, true, List, [], ◌∷◌, codes, None}
 use Rattle.qk_ast.specs.declared.Module.{Module}
 use Rattle.qk_ast.specs.declared.Expr.{Expr}
-use Rattle.qk_meaning.specs.Sites.{Named_module}
+use Rattle.qk_ast.specs.Sources.{Named_module}
 use Rattle.qk_meaning.specs.Run.{Line, Happens}
 use Rattle.qk_meaning.proofs.Rows.Trees.{name, text, post, call, gives, block, arrow, element, while, importing, item}
 use Rattle.qk_meaning.proofs.Rows.Common.{usual, printed, printed_captured, lines_of}

@@ -1,7 +1,7 @@
 -- Two elements with one id: the first has no listener.
 use Rattle.std.specs.Prelude.{◌≡◌, refl, true, List, [], ◌∷◌, codes, None}
 use Rattle.qk_ast.specs.declared.Module.{Module}
-use Rattle.qk_meaning.specs.Sites.{Named_module}
+use Rattle.qk_ast.specs.Sources.{Named_module}
 use Rattle.qk_meaning.specs.Run.{Line, Happens}
 use Rattle.qk_meaning.proofs.Rows.Trees.{int, name, text, post, dot, call, step, gives, block, plain, arrow, element, const, give_back, importing, item}
 use Rattle.qk_meaning.proofs.Rows.Common.{usual, printed, lines_of}

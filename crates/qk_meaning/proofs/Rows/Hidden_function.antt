@@ -4,7 +4,7 @@ use Rattle.qk_ast.specs.declared.Module.{Module}
 use Rattle.qk_ast.specs.declared.Expr.{Expr}
 use Rattle.qk_ast.specs.declared.Bin.{Bin}
 use Rattle.qk_ast.specs.declared.AssignOp.{AssignOp}
-use Rattle.qk_meaning.specs.Sites.{Named_module}
+use Rattle.qk_ast.specs.Sources.{Named_module}
 use Rattle.qk_meaning.specs.Run.{Line, Happens, Pauses}
 use Rattle.qk_meaning.proofs.Rows.Trees.{int, name, text, chain, choice, post, dot, call, assign, step, gives, block, plain, arrow, element, const, do_it, give_back, importing, item}
 use Rattle.qk_meaning.proofs.Rows.Common.{usual, printed_dropping, lines_of}

@@ -5,7 +5,7 @@ use Rattle.qk_ast.specs.declared.Expr.{Expr}
 use Rattle.qk_ast.specs.declared.Item.{Item}
 use Rattle.qk_ast.specs.declared.AssignOp.{AssignOp}
 use Rattle.qk_ast.specs.declared.Known.{Known}
-use Rattle.qk_meaning.specs.Sites.{Named_module}
+use Rattle.qk_ast.specs.Sources.{Named_module}
 use Rattle.qk_meaning.specs.Run.{Line, Happens}
 use Rattle.qk_meaning.proofs.Rows.Trees.{int, name, text, record_of, choice, post, dot, call, assign, step, known, gives, block, plain, fields, arrow, element, component, const, do_it, give_back, importing, item}
 use Rattle.qk_meaning.proofs.Rows.Common.{usual, printed, lines_of}

@@ -3,7 +3,7 @@ use Rattle.std.specs.Prelude.{◌≡◌, refl, true, List, [], ◌∷◌, codes,
 use Rattle.qk_ast.specs.declared.Module.{Module}
 use Rattle.qk_ast.specs.declared.Bin.{Bin}
 use Rattle.qk_ast.specs.declared.Known.{Known}
-use Rattle.qk_meaning.specs.Sites.{Named_module}
+use Rattle.qk_ast.specs.Sources.{Named_module}
 use Rattle.qk_meaning.specs.Run.{Line, Happens}
 use Rattle.qk_meaning.proofs.Rows.Trees.{int, name, text, list_of, chain, post, call, known, block, plain, arrow, element, const, do_it, give_back, importing, item}
 use Rattle.qk_meaning.proofs.Rows.Common.{usual, printed, printed_captured, lines_of}

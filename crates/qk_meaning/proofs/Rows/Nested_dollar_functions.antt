@@ -6,7 +6,7 @@ use Rattle.qk_ast.specs.declared.Bin.{Bin}
 use Rattle.qk_ast.specs.declared.AssignOp.{AssignOp}
 use Rattle.qk_ast.specs.declared.Known.{Known}
 use Rattle.qk_meaning.specs.Value.{Text}
-use Rattle.qk_meaning.specs.Sites.{Named_module}
+use Rattle.qk_ast.specs.Sources.{Named_module}
 use Rattle.qk_meaning.specs.Run.{Line, Happens, Pauses}
 use Rattle.qk_meaning.proofs.Rows.Trees.{int, name, text, list_of, chain, post, dot, call, assign, known, gives, block, plain, scope, arrow, element, const, do_it, give_back, importing, item}
 use Rattle.qk_meaning.proofs.Rows.Common.{usual, printed, printed_captured, printed_built, lines_of, last_page, last_page_captured, last_page_built}

@@ -2,7 +2,7 @@
 use Rattle.std.specs.Prelude.{◌≡◌, refl, true, List, [], ◌∷◌, codes}
 use Rattle.qk_ast.specs.declared.Module.{Module}
 use Rattle.qk_ast.specs.declared.Bin.{Bin}
-use Rattle.qk_meaning.specs.Sites.{Named_module}
+use Rattle.qk_ast.specs.Sources.{Named_module}
 use Rattle.qk_meaning.specs.Run.{Line}
 use Rattle.qk_meaning.proofs.Rows.Trees.{int, name, chain, choice, post, dot, call, gives, plain, arrow, element, component, importing, item}
 use Rattle.qk_meaning.proofs.Rows.Common.{usual, printed, lines_of}

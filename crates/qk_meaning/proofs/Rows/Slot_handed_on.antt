@@ -1,7 +1,7 @@
 -- A Slot among the children that a component gives to another: it shows what was given to the first.
 use Rattle.std.specs.Prelude.{◌≡◌, refl, true, List, [], ◌∷◌, codes}
 use Rattle.qk_ast.specs.declared.Module.{Module}
-use Rattle.qk_meaning.specs.Sites.{Named_module}
+use Rattle.qk_ast.specs.Sources.{Named_module}
 use Rattle.qk_meaning.proofs.Rows.Trees.{name, text, post, call, gives, arrow, element, component, importing, item}
 use Rattle.qk_meaning.proofs.Rows.Common.{usual, printed, printed_captured, lines_of}
 

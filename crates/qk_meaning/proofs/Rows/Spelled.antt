@@ -7,7 +7,7 @@ use Rattle.qk_meaning.specs.Expansion.{Tagged, Shows, Inside, no_nodes, node}
 use Rattle.qk_meaning.specs.Html.{node_html, node_count}
 use Rattle.qk_meaning.specs.Json.{quoted}
 use Rattle.qk_meaning.specs.Locations.{put_loc}
-use Rattle.qk_meaning.specs.Sites.{Named_module}
+use Rattle.qk_ast.specs.Sources.{Named_module}
 use Rattle.qk_meaning.specs.Readings.{program_of}
 use Rattle.qk_meaning.specs.Session.{nothing_yet}
 use Rattle.qk_meaning.specs.Run.{Played, Faulted, Ended}
