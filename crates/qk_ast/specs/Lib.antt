@@ -21,4 +21,5 @@ pub mod Sources
 pub mod Spots
 pub mod Tags
 pub mod Placing
+pub mod Application
 pub mod Laws
