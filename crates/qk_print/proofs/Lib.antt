@@ -15,3 +15,6 @@ pub mod Laid_parts
 pub mod Laid
 pub mod Laid_modules
 pub mod Integers
+pub mod Fitting
+pub mod Fitted
+pub mod Lengths_kept
