@@ -1,20 +1,20 @@
 -- How much a piece of writing weighs, and that a text fits it: the text is no longer than sixteen times the weight, with so much to spare, and is UTF-8 where
 -- what the writing says is made of scalar values.
-use Rattle.std.specs.Prelude.{◌≡◌, refl, ℕ, ◌+◌, ◌-◌, ◌*◌, ◌≤◌, ◌<◌, max, pos, Bool, true, false, ◌&&◌, ◌||◌, if◌then◌else◌, ◌==◌, nat_lt, nat_le, List, [], ◌∷◌, ◌++◌, length, map, codes, flat_map, IsTrue}
-use Rattle.std.proofs.Common.{ap, sym, ◌∙◌, subst, arith}
-use Rattle.std.proofs.lemmas.List.{append_assoc, append-nil, length-append}
-use Rattle.std.proofs.lemmas.Str.{IsUtf8-nil, IsUtf8-append, IsUtf8-from_ascii, encode_ascii}
+use Rattle.std.specs.Prelude.{◌≡◌, refl, ℕ, ◌+◌, ◌-◌, ◌*◌, ◌≤◌, ◌<◌, max, pos, Bool, true, false, ◌&&◌, if◌then◌else◌, ◌==◌, nat_lt, nat_le, List, [], ◌∷◌, ◌++◌, length, map, codes, flat_map, IsTrue}
+use Rattle.std.proofs.Common.{ap, ◌∙◌, subst, arith}
+use Rattle.std.proofs.lemmas.List.{append-nil, length-append}
+use Rattle.std.proofs.lemmas.Str.{IsUtf8-nil, IsUtf8-append, encode_ascii}
 use Rattle.std.proofs.Math.Utf8.{scalar, low_scalar}
 use Rattle.std.specs.Char.{encode_utf8}
 use Rattle.std.specs.Fmt.{signed_decimal}
 use Rattle.std.specs.List.{list_any}
-use Rattle.std.specs.Str.{IsUtf8, all_scalars, encode_utf8_all}
+use Rattle.std.specs.Str.{IsUtf8, all_scalars}
 use Rattle.qk_ast.specs.Characters.{Characters, every, number_after}
 use Rattle.qk_ast.specs.JsxText.{jsx_text, decoded}
 use Rattle.qk_ast.specs.Tokens.{Token, Edge, Piece, piece_value, piece_spelling, pieces_spelling}
 use Rattle.qk_ast.specs.Tree.{bytes, value}
-use Rattle.qk_ast.specs.Spelling.{Writing, ◌⨾◌, nothing, one, sign, word, name, begin}
-use Rattle.qk_ast.proofs.FrontToken.{left, right, if_false}
+use Rattle.qk_ast.specs.Spelling.{Writing, ◌⨾◌, nothing, one, sign, word, name}
+use Rattle.qk_ast.proofs.FrontToken.{left, right}
 use Rattle.qk_ast.proofs.OneToken.{at_least}
 use Rattle.qk_print.specs.Letters.{Text, quoted, template_part, escaped, control, unless_bare}
 use Rattle.qk_print.proofs.Rewriting.{piece, control_piece}

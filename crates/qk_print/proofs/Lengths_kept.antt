@@ -1,16 +1,18 @@
 -- The printed text of what a text derives is at most sixteen times as long.
-use Rattle.std.specs.Prelude.{◌≡◌, refl, ℕ, zero, suc, ◌+◌, ◌*◌, ◌≤◌, ◌<◌, max, min, pos, Bool, true, false, not, ◌&&◌, ◌||◌, if◌then◌else◌, ◌==◌, nat_lt, nat_le, Option, Some, None, List, [], ◌∷◌, ◌++◌, length, map, codes, IsTrue}
+use Rattle.std.specs.Prelude.{◌≡◌, refl, ℕ, zero, suc, ◌+◌, ◌*◌, ◌≤◌, ◌<◌, max, min, Bool, true, false, not, ◌&&◌, if◌then◌else◌, ◌==◌, Option, None, List, [], ◌∷◌, ◌++◌, length, map, codes, IsTrue}
 use Rattle.std.proofs.Common.{ap, sym, ◌∙◌, subst, arith}
 use Rattle.std.proofs.lemmas.Bool.{false≢true}
 use Rattle.std.proofs.lemmas.List.{length-append}
 use Rattle.std.proofs.lemmas.Str.{encodes-append, length-encode, len_utf8_bounds, len_utf8_ascii, length-le-encodes}
-use Rattle.std.specs.Char.{encode_utf8, len_utf8}
+use Rattle.std.specs.Char.{encode_utf8}
 use Rattle.std.specs.Str.{all_scalars}
-use Rattle.std.specs.Fmt.{signed_decimal}
 use Rattle.qk_ast.specs.Characters.{Characters, same, is_one_of, has, every, is_front, is_hex_digit, number_after}
 use Rattle.qk_ast.specs.JsxText.{onto_first, lines, untabbed, without_spaces_before, unless_blank, without_spaces_after, later_lines, trimmed, after_space, joined, decoded_after, decoded, jsx_text}
 use Rattle.qk_ast.specs.Tree.{bytes, value, module_tree}
-use Rattle.qk_ast.specs.Tokens.{Token, Piece, Edge, Blank, Written, Tokens, Around, Region, Braces, In_hole, In_tag, In_end, Children, piece_spelling, pieces_spelling, piece_value, is_escape, is_text_piece, are_text_pieces, is_template_piece, are_template_pieces, opening, closing, spelling, is_int, is_word, is_attribute_name, is_sign, is_code_sign, code_signs, tag_signs, child_signs, begin_signs, reserved_words, is_code_token, is_tag_token, is_end_token, is_child_token, is_token, blank_spelling, gap_spelling, written, tokens_of, stands}
+use Rattle.qk_ast.specs.Tokens.{Token, Piece, Edge, Blank, Written, Tokens, Around, Braces, In_hole, In_tag, In_end, Children, piece_spelling, pieces_spelling, piece_value, is_escape, is_text_piece, are_text_pieces, is_template_piece, are_template_pieces, opening, closing, spelling, is_int, is_word, is_attribute_name, code_signs, tag_signs, child_signs, begin_signs, reserved_words, is_code_token, is_tag_token, is_end_token, is_child_token, is_token, blank_spelling, gap_spelling, written, tokens_of, stands}
+use Rattle.qk_ast.specs.declared.Form.TheVariants.{Source, Built}
+use Rattle.qk_ast.specs.declared.Module.{Module}
+use Rattle.qk_ast.specs.Derives.{Derives, longest}
 use Rattle.qk_ast.specs.Grammar.{Module_text}
 use Rattle.qk_ast.specs.Spelling.{module_tokens}
 use Rattle.qk_ast.proofs.FrontToken.{left, right}
@@ -207,69 +209,38 @@ template_full (p ∷ ps) next h = (one p (left (is_template_piece p (pieces_spel
     one Piece.Return_feed k = tt
     one q k = escape_full q k
 
-some_word : (a : Characters) → IsTrue (is_word a) → 1 ≤ length a
-some_word [] h = absurd (false≢true h)
-some_word (c ∷ cs) h = omega arith
-
-some_attribute : (a next : Characters) → IsTrue (is_attribute_name a next) → 1 ≤ length a
-some_attribute [] next h = absurd (false≢true h)
-some_attribute (c ∷ cs) next h = omega arith
-
-some_reserved : (a : Characters) → IsTrue (is_one_of a reserved_words) → 1 ≤ length a
-some_reserved [] h = absurd (false≢true h)
-some_reserved (c ∷ cs) h = omega arith
-
-some_code_sign : (a : Characters) → IsTrue (is_one_of a code_signs) → 1 ≤ length a
-some_code_sign [] h = absurd (false≢true h)
-some_code_sign (c ∷ cs) h = omega arith
-
-some_tag_sign : (a : Characters) → IsTrue (is_one_of a tag_signs) → 1 ≤ length a
-some_tag_sign [] h = absurd (false≢true h)
-some_tag_sign (c ∷ cs) h = omega arith
-
-some_child_sign : (a : Characters) → IsTrue (is_one_of a child_signs) → 1 ≤ length a
-some_child_sign [] h = absurd (false≢true h)
-some_child_sign (c ∷ cs) h = omega arith
-
-some_begin_sign : (a : Characters) → IsTrue (is_one_of a begin_signs) → 1 ≤ length a
-some_begin_sign [] h = absurd (false≢true h)
-some_begin_sign (c ∷ cs) h = omega arith
-
-some_end_sign : (a : Characters) → IsTrue (same a (codes ">")) → 1 ≤ length a
-some_end_sign [] h = absurd (false≢true h)
-some_end_sign (c ∷ cs) h = omega arith
-
-some_text : (a : Characters) → not (length a == 0) ≡ true → 1 ≤ length a
-some_text [] h = absurd (false≢true h)
-some_text (c ∷ cs) h = omega arith
+-- what no empty text passes
+some : (passes : Characters → Bool) (a : Characters) → passes [] ≡ false → passes a ≡ true → 1 ≤ length a
+some passes [] e h = absurd (false≢true (sym e ∙ h))
+some passes (c ∷ cs) e h = omega arith
 
 code_well : (around : Around) (before : Option Token) (t : Token) (next : Characters) → is_code_token around before t next → Well t
-code_well around before (Token.Name a) next h = some_word a h.0
-code_well around before (Token.Reserved a) next h = some_reserved a h.0
+code_well around before (Token.Name a) next h = some is_word a refl h.0
+code_well around before (Token.Reserved a) next h = some (λ b. is_one_of b reserved_words) a refl h.0
 code_well around before (Token.Int digits) next h = h.0
 code_well around before (Token.Text quote pieces) next h = text_full quote pieces h.1
 code_well around before (Token.Template Edge.Backquote pieces to) next h = template_full pieces (closing to next) h
 code_well around before (Token.Template Edge.Hole pieces to) next h = template_full pieces (closing to next) h.1
-code_well around before (Token.Punct sign) next h = some_code_sign sign (left (is_one_of sign code_signs) _ (sign_is_sign before sign next h.1))
-code_well around before (Token.Begin sign) next h = some_begin_sign sign (left (is_one_of sign begin_signs) _ h.1)
+code_well around before (Token.Punct sign) next h = some (λ b. is_one_of b code_signs) sign refl (left (is_one_of sign code_signs) _ (sign_is_sign before sign next h.1))
+code_well around before (Token.Begin sign) next h = some (λ b. is_one_of b begin_signs) sign refl (left (is_one_of sign begin_signs) _ h.1)
 code_well around before (Token.Attribute quote text) next h = tt
 code_well around before (Token.JsxText text) next h = absurd h
 
 tag_well : (t : Token) (next : Characters) → is_tag_token t next → Well t
-tag_well (Token.Name a) next h = some_attribute a next h
+tag_well (Token.Name a) next h = some (λ b. is_attribute_name b next) a refl h
 tag_well (Token.Attribute quote text) next h = tt
-tag_well (Token.Punct sign) next h = some_tag_sign sign (left (is_one_of sign tag_signs) _ h)
+tag_well (Token.Punct sign) next h = some (λ b. is_one_of b tag_signs) sign refl (left (is_one_of sign tag_signs) _ h)
 tag_well t next h = absurd h
 
 end_well : (t : Token) (next : Characters) → is_end_token t next → Well t
-end_well (Token.Name a) next h = some_attribute a next h
-end_well (Token.Punct sign) next h = some_end_sign sign h
+end_well (Token.Name a) next h = some (λ b. is_attribute_name b next) a refl h
+end_well (Token.Punct sign) next h = some (λ b. same b (codes ">")) sign refl h
 end_well t next h = absurd h
 
 child_well : (t : Token) (next : Characters) → is_child_token t next → Well t
-child_well (Token.JsxText text) next h = some_text text (left (not (length text == 0)) _ (left (not (length text == 0) && every (λ c. not (has c (codes "{<>}"))) text) _ h))
-child_well (Token.Punct sign) next h = some_child_sign sign (left (is_one_of sign child_signs) _ h)
-child_well (Token.Begin sign) next h = some_begin_sign sign (left (is_one_of sign begin_signs) _ h.0)
+child_well (Token.JsxText text) next h = some (λ b. not (length b == 0)) text refl (left (not (length text == 0)) _ (left (not (length text == 0) && every (λ c. not (has c (codes "{<>}"))) text) _ h))
+child_well (Token.Punct sign) next h = some (λ b. is_one_of b child_signs) sign refl (left (is_one_of sign child_signs) _ h)
+child_well (Token.Begin sign) next h = some (λ b. is_one_of b begin_signs) sign refl (left (is_one_of sign begin_signs) _ h.0)
 child_well t next h = absurd h
 
 pub token_well : (around : Around) (before : Option Token) (t : Token) (next : Characters) → is_token around before t next → Well t
@@ -312,11 +283,7 @@ opening_wide Edge.Hole next = let a = wide_cons 125 next in let b = least 125 in
 token_wide : (t : Token) (next : Characters) → Well t → weight t + wide next ≤ wide (spelling t next)
 token_wide (Token.Name a) next h = let b = wide_append a next in let c = longer a in omega (arith, b, c, h)
 token_wide (Token.Reserved a) next h = let b = wide_append a next in let c = longer a in omega (arith, b, c, h)
-token_wide (Token.Int digits) next h = let b = wide_append digits next in let c = ap length (written_number digits h) in let d = longer digits in let e = some_int digits h in omega (arith, b, c, d, e)
-  where
-    some_int : (ds : Characters) → IsTrue (is_int ds) → 1 ≤ length ds
-    some_int [] k = absurd (false≢true k)
-    some_int (c ∷ cs) k = omega arith
+token_wide (Token.Int digits) next h = let b = wide_append digits next in let c = ap length (written_number digits h) in let d = longer digits in let e = some is_int digits refl h in omega (arith, b, c, d, e)
 token_wide (Token.Text quote pieces) next h = let a = pieces_wide pieces (quote ∷ next) h in let b = wide_cons quote (pieces_spelling pieces (quote ∷ next)) in let c = wide_cons quote next in let d = least quote in omega (arith, a, b, c, d)
 token_wide (Token.Attribute quote text) next h = let a = wide_append text (quote ∷ next) in let b = wide_cons quote (text ++ quote ∷ next) in let c = wide_cons quote next in let d = least quote in let e = decoded_wide text in omega (arith, a, b, c, d, e)
 token_wide (Token.Template from pieces to) next h = let a = pieces_wide pieces (closing to next) h in let b = opening_wide from (pieces_spelling pieces (closing to next)) in let c = closing_wide to next in omega (arith, a, b, c)
@@ -344,3 +311,11 @@ printed_short text m read = let a = (module_fits m).weighs [] in let b = weights
   where
     bound : (l v w x y : ℕ) → l + 0 + 16 * 0 ≤ 16 * v → w ≤ x → w ≡ v → x ≡ y → l ≤ 16 * y
     bound l v w x y a b c d = omega (arith, a, b, c, d)
+
+-- so that it is no longer than built files may be
+pub built_short : (source : List ℕ) (m : Module) → Derives Source source m → length (print_text m) ≤ longest Built
+built_short source m d = let a = printed_short d.characters d.parse.text (subst (Tokens d.characters) (sym d.parse.spells) d.read) in let b = ap (λ n. length (print_text n)) d.parse.means in let c = ap length d.encoded in let e = d.short in
+    bound _ _ _ _ a b c e
+  where
+    bound : (l k x y : ℕ) → l ≤ 16 * x → l ≡ k → x ≡ y → y ≤ 1048576 → k ≤ 16777216
+    bound l k x y a b c e = omega (arith, a, b, c, e)

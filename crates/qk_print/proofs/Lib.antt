@@ -18,3 +18,4 @@ pub mod Integers
 pub mod Fitting
 pub mod Fitted
 pub mod Lengths_kept
+pub mod Scalars_kept
