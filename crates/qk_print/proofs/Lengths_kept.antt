@@ -20,8 +20,8 @@ use Rattle.qk_ast.proofs.OneToken.{sign_is_sign}
 use Rattle.qk_ast.proofs.Pieces.{nat_is, four}
 use Rattle.qk_print.specs.Printing.{print_text}
 use Rattle.qk_print.proofs.Integers.{written_number}
-use Rattle.qk_print.proofs.Fitting.{weight, weights}
-use Rattle.qk_print.proofs.Fitted.{module_fits}
+use Rattle.qk_print.proofs.Weighing.{weight, weights}
+use Rattle.qk_print.proofs.Weighed.{module_fits}
 
 -- ---- characters
 

@@ -16,8 +16,8 @@ use Rattle.qk_ast.specs.Spelling.{module_tokens}
 use Rattle.qk_ast.proofs.FrontToken.{left, right}
 use Rattle.qk_print.specs.Printing.{print_text}
 use Rattle.qk_print.proofs.Integers.{written_number}
-use Rattle.qk_print.proofs.Fitting.{IsSound, Sound}
-use Rattle.qk_print.proofs.Fitted.{module_fits}
+use Rattle.qk_print.proofs.Weighing.{IsSound, Sound}
+use Rattle.qk_print.proofs.Weighed.{module_fits}
 use Rattle.qk_print.proofs.Lengths_kept.{Full, AllFull, Well, token_well}
 
 abbrev Scalars : Characters → Type 0

@@ -28,7 +28,7 @@ use Rattle.qk_print.proofs.Laid_parts.{commas_more, tag_is}
 use Rattle.qk_ast.specs.Grammar.{Names, Last_name, Last_comma, Next_name, Binding, Plain, Fields_of, Bindings, No_binding, Only_binding, Binding_comma, Parameters, Bare, In_brackets, Word, Free, Taken, Expression, Undefined, Null, Truth, Number, Quoted, Named, Whole, Holed, Bracketed, Listed, Recorded, Markup, Log, Keys, Str, Trunc, Postfix, Prefix, Chain, Choice, Function, Operands, No_operand, Operand, Holes, Last_part, Part_hole, Link, Dot, Index, Call, Links, No_link, Next_link, Arguments, No_argument, Only, Comma, Field, Key, Quoted_key, Short, Fields, No_field, Only_field, Field_comma, Element, Closed, Open, Fragment, Attributes, No_attribute, Set, Set_text, Set_value, Children, No_child, Text_child, Empty_child, Value_child, Element_child, Body, Block_body, Step_body, Step, Plain_step, Assign, Bump, Statement, Const, Scope, Let, Return, Return_step, If, If_else, While, For_of, Break, Continue, Delete, Block, Do, Statements, No_statement, Then, Part, Block_part, Statement_part, Import_line, Item_line, Module_text}
 use Rattle.qk_ast.specs.Spelling as spell
 use Rattle.qk_ast.specs.Spelling.{Writing, ◌⨾◌, nothing, one, sign, word, name, begin, comma, curly, tokens, names_tokens, binding_tokens, bindings_tokens, parameters_tokens, word_tokens, truth_word, scope_tokens, operands_tokens, holes_tokens, link_tokens, links_tokens, arguments_tokens, field_tokens, fields_tokens, element_tokens, attributes_tokens, children_tokens, body_tokens, step_tokens, statement_tokens, statements_tokens, part_tokens, import_tokens, imports_tokens, item_tokens, items_tokens}
-use Rattle.qk_print.proofs.Fitting.{weight, weighty, IsSound, Fits, fits_nothing, ◌⊹◌, fits_so, enough, ascii_utf8, is_mark, mark, around, front, back, bare, silent, quoted_utf8, quoted_length, fits_name, fits_word, fits_key, fits_word_key, fits_short, fits_int, fits_quoted, fits_attribute, fits_part}
+use Rattle.qk_print.proofs.Weighing.{weight, weighty, IsSound, Fits, fits_nothing, ◌⊹◌, fits_so, enough, ascii_utf8, is_mark, mark, around, front, back, bare, silent, quoted_utf8, quoted_length, fits_name, fits_word, fits_key, fits_word_key, fits_short, fits_int, fits_quoted, fits_attribute, fits_part}
 
 abbrev Text_of : ℕ → Expression → Text
 Text_of n v = expression_text (tree n v)
