@@ -11,6 +11,11 @@ pub mod Laying
 pub mod Quoting
 pub mod Lettering
 pub mod Standing_kept
+pub mod Weighing
+pub mod Weighed
+pub mod Lengths_kept
+pub mod Scalars_kept
+pub mod Reads_back
 pub mod Laid_parts
 pub mod Laid
 pub mod Laid_modules
