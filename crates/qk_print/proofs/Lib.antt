@@ -7,6 +7,7 @@ pub mod Values_kept
 pub mod Trees_kept
 pub mod Rules_kept
 pub mod Nesting_kept
+pub mod Lines
 pub mod Laying
 pub mod Quoting
 pub mod Lettering
