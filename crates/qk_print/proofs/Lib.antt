@@ -16,3 +16,7 @@ pub mod Laid_parts
 pub mod Laid
 pub mod Laid_modules
 pub mod Integers
+pub mod Fitting
+pub mod Pieces_stand
+pub mod Neighbours
+pub mod Stands_parts
