@@ -20,3 +20,4 @@ pub mod Fitting
 pub mod Pieces_stand
 pub mod Neighbours
 pub mod Stands_parts
+pub mod Stands

@@ -9,17 +9,17 @@ use Rattle.qk_ast.specs.declared.Bin.{Bin}
 use Rattle.qk_ast.specs.declared.Bin.TheVariants as bin
 use Rattle.qk_ast.specs.declared.AssignOp.{AssignOp}
 use Rattle.qk_ast.specs.declared.AssignOp.TheVariants as assign
-use Rattle.qk_ast.specs.Characters.{Characters, same, is_front, is_digit, begins_name}
-use Rattle.qk_ast.specs.Tokens.{Token, Edge, Written, Region, Around, Braces, In_hole, In_tag, In_end, Children as Child_region, is_code, allows_jsx, is_word, is_int, is_code_sign, is_attribute_name, written}
+use Rattle.qk_ast.specs.Characters.{Characters, same, is_one_of, is_front, is_digit, begins_name}
+use Rattle.qk_ast.specs.Tokens.{Token, Edge, Written, Region, Around, Braces, In_hole, In_tag, In_end, Children as Child_region, is_code, reserved_words, allows_jsx, is_word, is_int, is_code_sign, is_attribute_name, written}
 use Rattle.qk_ast.specs.Tree.{bytes, word_text}
 use Rattle.qk_ast.specs.Rules.{is_target, is_member}
 use Rattle.qk_ast.proofs.FrontToken.{left, is_not, same_is}
 use Rattle.qk_ast.proofs.OneToken.{rest_digits}
 use Rattle.qk_print.specs.Shapes.{is_less}
-use Rattle.qk_print.proofs.Lines.{Line, ◌▹◌, line, braced, block, comma, link_line, links_line, arguments_line, fields_line, field_line, operands_line, holes_line, attributes_line, children_line, element_line, statements_line, statement_line, un_line, assign_line, bump_line, bindings_line, binding_line, space}
-use Rattle.qk_print.proofs.Neighbours.{At, Soft, Shut, Jsx_at, jsx_in_code, follows, spaced, soft_space, code_token, keyword, code_sign, code_apart, opens_brace, closes_brace, begins_jsx, tag_token, spaced_tag_token, end_token, child_token, Tag_soft, name_before, other_than, tag_front}
+use Rattle.qk_print.proofs.Lines.{Line, ◌▹◌, line, braced, block, comma, link_line, links_line, arguments_line, fields_line, field_line, operands_line, holes_line, attributes_line, children_line, element_line, statements_line, statement_line, un_line, assign_line, bump_line, bindings_line, binding_line, space, empty, word, round}
+use Rattle.qk_print.proofs.Neighbours.{At, Soft, Shut, Jsx_at, jsx_in_code, follows, spaced, soft_space, code_token, keyword, code_sign, code_apart, opens_brace, closes_brace, begins_jsx, tag_token, spaced_tag_token, end_token, child_token, Tag_soft, name_before, other_than, tag_front, soft_bin, soft_assign}
 use Rattle.qk_print.proofs.Pieces_stand.{text_stands}
-use Rattle.qk_ast.specs.Grammar.{Bindings, No_binding, Only_binding, Binding_comma, Binding, Free, Taken, Expression, Undefined, Null, Truth, Number, Quoted, Named, Whole, Holed, Bracketed, Listed, Recorded, Markup, Log, Keys, Str, Trunc, Postfix, Prefix, Chain, Choice, Function, Operands, No_operand, Operand, Holes, Last_part, Part_hole, Link, Dot, Index, Call, Links, No_link, Next_link, Arguments, No_argument, Only, Comma, Field, Fields, No_field, Only_field, Field_comma, Element, Closed, Open, Fragment, Attributes, No_attribute, Set, Set_text, Set_value, Children, No_child, Text_child, Empty_child, Value_child, Element_child, Statement, Statements, No_statement, Then}
+use Rattle.qk_ast.specs.Grammar.{Bindings, No_binding, Only_binding, Binding_comma, Binding, Free, Taken, Expression, Undefined, Null, Truth, Number, Quoted, Named, Whole, Holed, Bracketed, Listed, Recorded, Markup, Log, Keys, Str, Trunc, Postfix, Prefix, Chain, Choice, Function, Operands, No_operand, Operand, Holes, Last_part, Part_hole, Link, Dot, Index, Call, Links, No_link, Next_link, Arguments, No_argument, Only, Comma, Field, Quoted_key, Fields, No_field, Only_field, Field_comma, Element, Closed, Open, Fragment, Attributes, No_attribute, Set, Set_text, Set_value, Children, No_child, Text_child, Empty_child, Value_child, Element_child, Statement, Statements, No_statement, Then}
 use Rattle.qk_print.proofs.Rewriting.{text_pieces, enclosed, stands_plain, is_recorded, is_marked_up, begins_known, is_return_link, ends_with_return, stands_as_operand, as_head, as_operand, unless_markup, unless_record, as_right_side, as_statement, then_bindings, then_arguments, then_fields, text_child, value_child, opened, either_way, built}
 
 -- ---- plain lines
@@ -222,12 +222,6 @@ assign_stands assign.Add y s c n k = code_apart (codes "+=") c refl refl (λ cs.
 assign_stands assign.Sub y s c n k = code_apart (codes "-=") c refl refl (λ cs. refl) (outside y s c n k)
 assign_stands assign.Mul y s c n k = code_apart (codes "*=") c refl refl (λ cs. refl) (outside y s c n k)
 
-soft_assign : (op : AssignOp) (R : Written) → Soft (assign_line op R)
-soft_assign assign.Set R = refl
-soft_assign assign.Add R = refl
-soft_assign assign.Sub R = refl
-soft_assign assign.Mul R = refl
-
 pub assigned_stands : (x y : Expression) (op : AssignOp) → is_marked_up x ≡ false → Stood x → Stood y → Plain (line x ▹ assign_line op ▹ line (as_right_side op y))
 assigned_stands x y op e h s = record { here = λ R c n k. bare x e h c (soft_assign op _) (λ u q. assign_stands op y s c n k) }
 
@@ -318,6 +312,9 @@ fragment_stands cs l = record { here = λ around before R j k. begins_jsx (codes
 value_stands : (y : Expression) (cs : Children) → Stood y → Children_stand cs → Children_stand (Value_child y cs)
 value_stands y cs s m = record { here = λ R k. child_token refl (inside y s refl refl refl (λ u q. closes_brace (m.here R k))) }
 
+pub element_child_stands : (el : Element) (cs : Children) → Element_stands el → Children_stand cs → Children_stand (Element_child el cs)
+element_child_stands el cs h m = record { here = λ {around} {before} R k. h.here (Child_region ∷ around) before (children_line cs R) tt (λ u. m.here R k) }
+
 pub value_child_stands : (y : Expression) (cs : Children) → Stood y → Children_stand cs → Children_stand (value_child y cs)
 value_child_stands (Markup el) cs s m = record { here = λ {around} {before} R k. s.here (Child_region ∷ around) before (children_line cs R) tt tt (λ u q. m.here R k) }
 value_child_stands y cs s m = value_stands y cs s m
@@ -338,9 +335,33 @@ pub soft_holes : (hs : Holes) (R : Written) → Soft (holes_line hs R)
 soft_holes (Last_part pieces) R = refl
 soft_holes (Part_hole pieces x more) R = refl
 
+pub soft_operands : (os : Operands) (R : Written) → Soft R → Soft (operands_line os R)
+soft_operands No_operand R h = h
+soft_operands (Operand op x more) R h = soft_bin op _
+
+pub free_shuts : (a : Characters) (b : Bool) → Shut b (Some (Token.Name a))
+free_shuts a true = refl
+free_shuts a false = tt
+
+pub named_stands : (a : Characters) → IsTrue (is_word a) → IsTrue (not (is_one_of a reserved_words)) → Stood (Named a)
+named_stands a h f = record { here = λ around before R c n k. code_token c (h, f, n) (k _ refl); calm = λ p R. word_calm a (written R []) h }
+
+pub key_stands : (cs : Characters) (y : Expression) → Stood y → Plain (field_line (Quoted_key 34 (text_pieces cs) y))
+key_stands cs y s = record { here = λ R c n k. code_token c (refl, text_stands cs) (code_sign (codes ":") c refl refl refl (spaced c (inside y s c refl n (λ u q. k u)))) }
+
+pub nothing_stands : Plain empty
+nothing_stands = record { here = λ R c n k. k _ }
+
 -- ---- statements
 
+-- with spaces behind them
+pub then_stands : (l m : Line) → Plain l → Plain m → Plain (l ▹ space ▹ m)
+then_stands l m h k = record { here = λ R c n e. h.here (space (m R)) c (soft_space (m R)) (λ u. spaced c (k.here R c n e)) }
+
+-- `if` or `while`
+pub tested_stands : (w : Characters) (test : Expression) (l : Line) → IsTrue (is_one_of w reserved_words) → Stood test → Plain l → Plain (word w ▹ space ▹ round (line test) ▹ space ▹ block l)
+tested_stands w test l e s h = record { here = λ R c n k. keyword w c e (code_sign (codes "(") c refl refl refl (inside test s c refl refl (λ u q. code_sign (codes ")") c refl refl refl (spaced c ((block_stands l h).here R c n k))))) }
+
 pub either_way_stands : (test : Expression) (ys ns : Statements) → Stood test → Plain (statements_line ys) → Plain (statements_line ns) → Plain (statement_line (either_way test ys ns))
-either_way_stands test ys No_statement s h l = record { here = λ R c n k. keyword (codes "if") c refl (code_sign (codes "(") c refl refl refl (inside test s c refl refl (λ u q. code_sign (codes ")") c refl refl refl (spaced c ((block_stands _ h).here R c n k))))) }
-either_way_stands test ys (Then s' ss) s h l = record { here = λ R c n k. keyword (codes "if") c refl (code_sign (codes "(") c refl refl refl (inside test s c refl refl (λ u q. code_sign (codes ")") c refl refl refl (spaced c
-    ((block_stands _ h).here _ c refl (λ v. spaced c (keyword (codes "else") c refl ((block_stands _ l).here R c n k)))))))) }
+either_way_stands test ys No_statement s h l = tested_stands (codes "if") test (statements_line ys) refl s h
+either_way_stands test ys (Then s' ss) s h l = record { here = λ R c n k. (tested_stands (codes "if") test (statements_line ys) refl s h).here _ c refl (λ u. spaced c (keyword (codes "else") c refl ((block_stands _ l).here R c n k))) }

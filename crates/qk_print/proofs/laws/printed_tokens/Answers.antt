@@ -10,7 +10,7 @@ use Rattle.qk_print.proofs.Nesting_kept.{module_deep}
 use Rattle.qk_print.proofs.Laid_parts.{Numbers}
 use Rattle.qk_print.proofs.Laid_modules.{module_laid}
 use Rattle.qk_print.proofs.Integers.{numbers_of}
-use Rattle.qk_print.proofs.Stands_parts.{calm_operand}
+use Rattle.qk_print.proofs.Stands.{stood}
 use Rattle.qk_print.proofs.Pieces_stand.{text_stands}
 use Rattle.qk_print.proofs.Neighbours.{bin_stands}
 use Rattle.qk_print.proofs.Fitting.{text_fits}
