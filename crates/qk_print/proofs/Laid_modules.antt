@@ -35,5 +35,8 @@ items_laid : (is : List Item_line) (n : ℕ) (R : List Token) → Numbers (items
 items_laid [] n R g = (lays_nothing, g)
 items_laid (i ∷ is) n R g = let c = item_laid i.exported i.name i.value n (items_tokens is R) g in let d = items_laid is (n + arrows (tokens i.value)) R c.1 in (c.0 ⊹ d.0, d.1)
 
-pub module_laid : (m : Module_text) → Numbers (module_tokens m) → Lays (imports_tokens (map built_import m.imports) ⨾ items_tokens (map built_item m.items)) (print_text (module_tree m))
-module_laid m g = let c = imports_laid m.imports (items_tokens m.items []) g in let d = items_laid m.items 0 [] c.1 in lays_by_line (module_line (built_module m)) _ _ (c.0 ⊹ d.0)
+pub module_laid_as : (m : Module_text) → Numbers (module_tokens m) → Lays_as (module_line (built_module m)) (imports_tokens (map built_import m.imports) ⨾ items_tokens (map built_item m.items)) (print_text (module_tree m))
+module_laid_as m g = let c = imports_laid m.imports (items_tokens m.items []) g in let d = items_laid m.items 0 [] c.1 in c.0 ⊹ d.0
+
+abbrev pub module_laid : (m : Module_text) → Numbers (module_tokens m) → Lays (imports_tokens (map built_import m.imports) ⨾ items_tokens (map built_item m.items)) (print_text (module_tree m))
+module_laid m g = lays_by_line (module_line (built_module m)) _ _ (module_laid_as m g)

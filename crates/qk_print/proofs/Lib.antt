@@ -21,3 +21,4 @@ pub mod Pieces_stand
 pub mod Neighbours
 pub mod Stands_parts
 pub mod Stands
+pub mod Standing_printed
