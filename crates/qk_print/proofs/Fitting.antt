@@ -1,9 +1,9 @@
 -- What each token of a text says of itself, in the regions where it stands.
 use Rattle.std.specs.Prelude.{◌≡◌, refl, Bool, true, false, not, ◌&&◌, if◌then◌else◌, ◌==◌, Option, List, [], ◌∷◌, length, codes, IsTrue}
-use Rattle.std.proofs.Common.{ap, sym, ◌∙◌, subst}
+use Rattle.std.proofs.Common.{ap, ◌∙◌, subst}
 use Rattle.std.proofs.lemmas.Bool.{false≢true}
-use Rattle.qk_ast.specs.Characters.{Characters, same, is_one_of, begins_with, is_letter}
-use Rattle.qk_ast.specs.Tokens.{Token, Edge, Written, Region, Around, Braces, In_hole, In_tag, In_end, Children, is_code, after, after_sign, reserved_words, is_word, is_int, continues_attribute, is_attribute_rest, is_attribute_name, is_code_token, is_tag_token, is_token, stands, tokens_of}
+use Rattle.qk_ast.specs.Characters.{Characters, same, is_one_of, is_letter}
+use Rattle.qk_ast.specs.Tokens.{Token, Written, Around, Braces, In_hole, In_tag, In_end, Children, is_code, after, after_sign, reserved_words, is_word, is_int, continues_attribute, is_attribute_rest, is_attribute_name, is_code_token, is_tag_token, is_token, stands, tokens_of}
 use Rattle.qk_ast.proofs.FrontToken.{left, right}
 
 abbrev pub fits_code : Token → Type 0

@@ -1,5 +1,5 @@
 -- What may stand before and behind the tokens of a line.
-use Rattle.std.specs.Prelude.{◌≡◌, refl, ℕ, Bool, true, false, not, ◌&&◌, if◌then◌else◌, ◌==◌, Option, Some, None, List, [], ◌∷◌, ◌++◌, length, codes, IsTrue}
+use Rattle.std.specs.Prelude.{◌≡◌, refl, ℕ, Bool, true, false, not, ◌&&◌, if◌then◌else◌, ◌==◌, Option, Some, [], ◌∷◌, ◌++◌, length, codes, IsTrue}
 use Rattle.std.proofs.Common.{ap, sym, ◌∙◌, subst}
 use Rattle.std.proofs.lemmas.Bool.{false≢true}
 use Rattle.qk_ast.specs.declared.Bin.{Bin}
@@ -7,11 +7,11 @@ use Rattle.qk_ast.specs.declared.Bin.TheVariants as bin
 use Rattle.qk_ast.specs.declared.AssignOp.{AssignOp}
 use Rattle.qk_ast.specs.declared.AssignOp.TheVariants as assign
 use Rattle.qk_ast.specs.Characters.{Characters, same, is_one_of, begins_with, is_front, is_letter}
-use Rattle.qk_ast.specs.Tokens.{Token, Edge, Written, Region, Around, Braces, In_hole, In_tag, In_end, Children, is_code, in_hole, after, reserved_words, is_word, begin_signs, child_signs, is_sign, allows_jsx, ends_word, is_code_sign, continues_attribute, is_attribute_rest, is_attribute_name, is_code_token, is_tag_token, is_end_token, is_child_token, stands, written}
+use Rattle.qk_ast.specs.Tokens.{Token, Written, Around, Braces, In_hole, In_tag, In_end, Children, is_code, in_hole, after, reserved_words, is_word, begin_signs, child_signs, is_sign, allows_jsx, ends_word, is_code_sign, continues_attribute, is_attribute_rest, is_attribute_name, is_code_token, is_tag_token, is_end_token, is_child_token, stands, written}
 use Rattle.qk_ast.proofs.FrontToken.{left, right}
 use Rattle.qk_ast.proofs.Pieces.{nat_is}
 use Rattle.qk_print.specs.Shapes.{is_less}
-use Rattle.qk_print.proofs.Lines.{Line, ◌▹◌, put, name, word, sign, begin, space, feed, apart, bin_line, assign_line}
+use Rattle.qk_print.proofs.Lines.{put, name, word, sign, begin, space, feed, apart, bin_line, assign_line}
 use Rattle.qk_print.proofs.Fitting.{same_region, in_braces, both}
 
 -- The line may stand in these regions, behind that token.

@@ -1,13 +1,13 @@
 -- What is printed between quotes may stand there.
-use Rattle.std.specs.Prelude.{◌≡◌, refl, ℕ, ◌<◌, ◌≤◌, Bool, true, false, not, ◌&&◌, ◌||◌, if◌then◌else◌, ◌==◌, nat_lt, List, [], ◌∷◌, map, codes, IsTrue}
-use Rattle.std.proofs.Common.{ap, sym, ◌∙◌, subst, arith}
+use Rattle.std.specs.Prelude.{◌≡◌, refl, ℕ, ◌<◌, ◌≤◌, Bool, true, false, not, ◌&&◌, if◌then◌else◌, ◌==◌, nat_lt, List, [], ◌∷◌, codes, IsTrue}
+use Rattle.std.proofs.Common.{ap, sym, ◌∙◌, arith}
 use Rattle.std.proofs.lemmas.Bool.{false≢true}
 use Rattle.std.specs.List.{list_any}
 use Rattle.qk_ast.specs.Characters.{Characters, is_front}
-use Rattle.qk_ast.specs.Tokens.{Piece, pieces_spelling, is_text_piece, are_text_pieces, is_template_piece, are_template_pieces, is_escape}
+use Rattle.qk_ast.specs.Tokens.{Piece, pieces_spelling, is_text_piece, are_text_pieces, is_template_piece, are_template_pieces}
 use Rattle.qk_ast.proofs.Pieces.{nat_is}
 use Rattle.qk_print.proofs.Rewriting.{piece, control_piece, text_pieces, template_pieces}
-use Rattle.qk_print.proofs.Values_kept.{below, Each, among_marks}
+use Rattle.qk_print.proofs.Values_kept.{below, Each, among_marks, less, not_less}
 use Rattle.qk_print.proofs.Fitting.{both}
 
 control_text : (c : ℕ) → c < 32 → is_text_piece 34 (control_piece c) ≡ true
@@ -15,12 +15,6 @@ control_text = below 32 (λ c. is_text_piece 34 (control_piece c) ≡ true) sear
 
 control_template : (next : Characters) (c : ℕ) → c < 32 → is_template_piece (control_piece c) next ≡ true
 control_template next = below 32 (λ c. is_template_piece (control_piece c) next ≡ true) search
-
-less : (m n : ℕ) → nat_lt m n ≡ true → m < n
-less m n h = search arith
-
-not_less : (m n : ℕ) → nat_lt m n ≡ false → n ≤ m
-not_less m n h = search arith
 
 -- a character that isn't that one
 differs : (c d : ℕ) → (c ≡ d → ⊥) → (c == d) ≡ false

@@ -1,5 +1,5 @@
 -- The tokens of a printed module stand where they are printed.
-use Rattle.std.specs.Prelude.{◌≡◌, refl, Bool, true, false, Option, None, List, [], ◌∷◌, map, codes, IsTrue}
+use Rattle.std.specs.Prelude.{◌≡◌, refl, Bool, true, false, Option, None, List, [], ◌∷◌, map, codes}
 use Rattle.std.proofs.Common.{subst}
 use Rattle.qk_ast.specs.declared.Form.TheVariants.{Source}
 use Rattle.qk_ast.specs.Characters.{Characters}
@@ -12,7 +12,7 @@ use Rattle.qk_print.proofs.Lines.{Line, import_line, imports_line, value_line, i
 use Rattle.qk_print.proofs.Fitting.{Fit, text_fits, said, past, past_sign, past_brace}
 use Rattle.qk_print.proofs.Pieces_stand.{text_stands}
 use Rattle.qk_print.proofs.Neighbours.{At, fed, code_token, keyword, name_apart, code_sign, code_apart}
-use Rattle.qk_print.proofs.Stands_parts.{Stood, inside, braced_stands}
+use Rattle.qk_print.proofs.Stands_parts.{inside, braced_stands}
 use Rattle.qk_print.proofs.Stands.{names_stand, stood}
 
 -- It may stand in the code of the module.

@@ -1,5 +1,5 @@
 -- What is printed for a text whose tokens stand may stand.
-use Rattle.std.specs.Prelude.{refl, Bool, true, false, not, Option, Some, None, List, [], ◌∷◌, map, codes, IsTrue}
+use Rattle.std.specs.Prelude.{refl, Bool, true, false, Some, None, List, [], ◌∷◌, map, codes, IsTrue}
 use Rattle.std.proofs.lemmas.Bool.{false≢true}
 use Rattle.qk_ast.specs.declared.Form.TheVariants.{Source}
 use Rattle.qk_ast.specs.declared.Un.{Un}
@@ -10,15 +10,15 @@ use Rattle.qk_ast.specs.declared.AssignOp.{AssignOp}
 use Rattle.qk_ast.specs.declared.AssignOp.TheVariants as assign
 use Rattle.qk_ast.specs.Characters.{Characters}
 use Rattle.qk_ast.specs.JsxText.{jsx_text, decoded}
-use Rattle.qk_ast.specs.Tokens.{Token, Written, Around, Braces, In_hole, In_tag, Children as Child_region, is_code, piece_value, written}
+use Rattle.qk_ast.specs.Tokens.{Token, Around, Braces, In_hole, In_tag, Children as Child_region, is_code, piece_value, written}
 use Rattle.qk_ast.specs.Rules.{keeps, operands_keep, holes_keep, link_keeps, links_keep, arguments_keep, field_keeps, fields_keep, element_keeps, attributes_keep, children_keep, body_keeps, step_keeps, statement_keeps, statements_keep, part_keeps}
 use Rattle.qk_ast.specs.Grammar.{Names, Last_name, Last_comma, Next_name, Binding, Plain as Plain_name, Fields_of, Bindings, No_binding, Only_binding, Binding_comma, Parameters, Bare, In_brackets, Word, Free, Taken, Expression, Undefined, Null, Truth, Number, Quoted, Named, Whole, Holed, Bracketed, Listed, Recorded, Markup, Log, Keys, Str, Trunc, Postfix, Prefix, Chain, Choice, Function, Operands, No_operand, Operand, Holes, Last_part, Part_hole, Link, Dot, Index, Call, Links, No_link, Next_link, Arguments, No_argument, Only, Comma, Field, Key, Quoted_key, Short, Fields, No_field, Only_field, Field_comma, Element, Closed, Open, Fragment, Attributes, No_attribute, Set, Set_text, Set_value, Children, No_child, Text_child, Empty_child, Value_child, Element_child, Body, Block_body, Step_body, Step, Plain_step, Assign, Bump, Statement, Const, Scope, Let, Return, Return_step, If, If_else, While, For_of, Break, Continue, Delete, Block, Do, Statements, No_statement, Then, Part, Block_part, Statement_part, Level}
 use Rattle.qk_ast.specs.Spelling.{tokens, names_tokens, binding_tokens, bindings_tokens, parameters_tokens, word_tokens, un_sign, bin_sign, assign_sign, bump_sign, truth_word, operands_tokens, holes_tokens, link_tokens, links_tokens, arguments_tokens, field_tokens, fields_tokens, element_tokens, attributes_tokens, children_tokens, body_tokens, step_tokens, statement_tokens, statements_tokens, part_tokens}
-use Rattle.qk_print.proofs.Rewriting.{text_pieces, first_of_operands, word_characters, as_operand, unless_markup, unless_record, as_statement, built_names, built_binding, built_bindings, built_parameters, built, built_operands, built_holes, built_link, built_links, built_arguments, built_field, built_fields, built_element, built_attributes, built_children, built_body, built_step, built_statement, built_statements, built_part}
-use Rattle.qk_print.proofs.Lines.{no_field, line, names_line, binding_line, bindings_line, parameters_line, operands_line, arguments_line, field_line, fields_line, body_line, step_line, statement_line, statements_line}
+use Rattle.qk_print.proofs.Rewriting.{first_of_operands, word_characters, unless_record, built_names, built_binding, built_bindings, built_parameters, built, built_operands, built_holes, built_link, built_links, built_arguments, built_field, built_fields, built_element, built_attributes, built_children, built_body, built_step, built_statement, built_statements, built_part}
+use Rattle.qk_print.proofs.Lines.{no_field, names_line, binding_line, bindings_line, parameters_line, arguments_line, field_line, fields_line, body_line, step_line, statement_line, statements_line}
 use Rattle.qk_print.proofs.Fitting.{Fit, said, past, past_sign, past_brace}
-use Rattle.qk_print.proofs.Pieces_stand.{text_stands, template_stands}
-use Rattle.qk_print.proofs.Neighbours.{spaced, code_token, keyword, name_apart, code_sign, code_apart, opens_brace, bin_stands, soft_bin}
+use Rattle.qk_print.proofs.Pieces_stand.{template_stands}
+use Rattle.qk_print.proofs.Neighbours.{spaced, code_token, keyword, name_apart, code_sign, code_apart, bin_stands, soft_bin}
 use Rattle.qk_print.proofs.Stands_parts.{Plain, Inner, braced_stands, block_stands, comma_stands, then_bindings_stand, then_fields_stand, Stood, inside, bare, enclosed_stands, operand, calm_operand, head, calm_head, outside, as_a_statement, int_calm, un_stands, target_bare, member_bare, assigned_stands, bumped_stands, then_arguments_stand, Operands_stand, Link_stands, Links_stand, soft_link, last_link, next_link, taken_shuts, Element_stands, Attributes_stand, Children_stand, set_value_stands, closed_stands, opened_stands, fragment_stands, element_child_stands, value_child_stands, quoted_stands, text_child_stands, Holes_stand, soft_holes, either_way_stands, soft_operands, free_shuts, named_stands, key_stands, nothing_stands, then_stands, tested_stands}
 
 -- ---- past signs of operators

@@ -1,26 +1,25 @@
 -- The lines of parts may stand where they are printed.
-use Rattle.std.specs.Prelude.{◌≡◌, refl, Bool, true, false, not, ◌&&◌, ◌||◌, ◌==◌, Option, Some, None, List, [], ◌∷◌, ◌++◌, codes, bytes_eq, IsTrue}
+use Rattle.std.specs.Prelude.{◌≡◌, refl, Bool, true, false, not, ◌&&◌, ◌==◌, Option, Some, [], ◌∷◌, ◌++◌, codes, bytes_eq, IsTrue}
 use Rattle.std.proofs.Common.{ap, sym, ◌∙◌, subst}
 use Rattle.std.proofs.lemmas.Bool.{false≢true}
 use Rattle.std.specs.Char.{encode_utf8}
 use Rattle.qk_ast.specs.declared.Un.{Un}
 use Rattle.qk_ast.specs.declared.Un.TheVariants as un
 use Rattle.qk_ast.specs.declared.Bin.{Bin}
-use Rattle.qk_ast.specs.declared.Bin.TheVariants as bin
 use Rattle.qk_ast.specs.declared.AssignOp.{AssignOp}
 use Rattle.qk_ast.specs.declared.AssignOp.TheVariants as assign
 use Rattle.qk_ast.specs.Characters.{Characters, same, is_one_of, is_front, is_digit, begins_name}
-use Rattle.qk_ast.specs.Tokens.{Token, Edge, Written, Region, Around, Braces, In_hole, In_tag, In_end, Children as Child_region, is_code, reserved_words, allows_jsx, is_word, is_int, is_code_sign, is_attribute_name, written}
-use Rattle.qk_ast.specs.Tree.{bytes, word_text}
+use Rattle.qk_ast.specs.Tokens.{Token, Written, Around, In_hole, In_tag, Children as Child_region, is_code, reserved_words, allows_jsx, is_word, is_int, is_code_sign, is_attribute_name, written}
+use Rattle.qk_ast.specs.Tree.{bytes}
 use Rattle.qk_ast.specs.Rules.{is_target, is_member}
 use Rattle.qk_ast.proofs.FrontToken.{left, is_not, same_is}
 use Rattle.qk_ast.proofs.OneToken.{rest_digits}
 use Rattle.qk_print.specs.Shapes.{is_less}
 use Rattle.qk_print.proofs.Lines.{Line, ◌▹◌, line, braced, block, comma, link_line, links_line, arguments_line, fields_line, field_line, operands_line, holes_line, attributes_line, children_line, element_line, statements_line, statement_line, un_line, assign_line, bump_line, bindings_line, binding_line, space, empty, word, round}
-use Rattle.qk_print.proofs.Neighbours.{At, Soft, Shut, Jsx_at, jsx_in_code, follows, spaced, soft_space, code_token, keyword, code_sign, code_apart, opens_brace, closes_brace, begins_jsx, tag_token, spaced_tag_token, end_token, child_token, Tag_soft, name_before, other_than, tag_front, soft_bin, soft_assign}
+use Rattle.qk_print.proofs.Neighbours.{At, Soft, Shut, Jsx_at, jsx_in_code, spaced, soft_space, code_token, keyword, code_sign, code_apart, opens_brace, closes_brace, begins_jsx, tag_token, spaced_tag_token, end_token, child_token, Tag_soft, name_before, other_than, tag_front, soft_bin, soft_assign}
 use Rattle.qk_print.proofs.Pieces_stand.{text_stands}
-use Rattle.qk_ast.specs.Grammar.{Bindings, No_binding, Only_binding, Binding_comma, Binding, Free, Taken, Expression, Undefined, Null, Truth, Number, Quoted, Named, Whole, Holed, Bracketed, Listed, Recorded, Markup, Log, Keys, Str, Trunc, Postfix, Prefix, Chain, Choice, Function, Operands, No_operand, Operand, Holes, Last_part, Part_hole, Link, Dot, Index, Call, Links, No_link, Next_link, Arguments, No_argument, Only, Comma, Field, Quoted_key, Fields, No_field, Only_field, Field_comma, Element, Closed, Open, Fragment, Attributes, No_attribute, Set, Set_text, Set_value, Children, No_child, Text_child, Empty_child, Value_child, Element_child, Statement, Statements, No_statement, Then}
-use Rattle.qk_print.proofs.Rewriting.{text_pieces, enclosed, stands_plain, is_recorded, is_marked_up, begins_known, is_return_link, ends_with_return, stands_as_operand, as_head, as_operand, unless_markup, unless_record, as_right_side, as_statement, then_bindings, then_arguments, then_fields, text_child, value_child, opened, either_way, built}
+use Rattle.qk_ast.specs.Grammar.{Bindings, No_binding, Only_binding, Binding_comma, Binding, Taken, Expression, Quoted, Named, Bracketed, Markup, Postfix, Operands, No_operand, Operand, Holes, Last_part, Part_hole, Link, Dot, Index, Call, Links, No_link, Next_link, Arguments, No_argument, Only, Comma, Field, Quoted_key, Fields, No_field, Only_field, Field_comma, Element, Closed, Open, Fragment, Attributes, No_attribute, Set, Set_text, Set_value, Children, No_child, Text_child, Empty_child, Value_child, Element_child, Statements, No_statement, Then}
+use Rattle.qk_print.proofs.Rewriting.{text_pieces, enclosed, stands_plain, is_marked_up, begins_known, is_return_link, ends_with_return, stands_as_operand, as_head, as_operand, unless_markup, as_right_side, as_statement, then_bindings, then_arguments, then_fields, text_child, value_child, opened, either_way, built}
 
 -- ---- plain lines
 
@@ -196,10 +195,10 @@ no_bang (d ∷ ds) h = choose (61 == d) h
     choose false e = refl
 
 not_sign : (before : Option Token) (next : Characters) → Calm next → IsTrue (is_code_sign before (codes "!") next)
-not_sign before next h = let e = no_bang next (is_not _ h.1) in rw e refl
+not_sign before next h = let e = no_bang next (is_not _ h.1) in rw e (refl {a = true})
 
 minus_sign : (before : Option Token) (next : Characters) → Calm next → IsTrue (is_code_sign before (codes "-") next)
-minus_sign before next h = let e = is_not (is_front (codes "-") next) h.0 in let f = is_not (is_front (codes "=") next) h.1 in rw (e, f) refl
+minus_sign before next h = let e = is_not (is_front (codes "-") next) h.0 in let f = is_not (is_front (codes "=") next) h.1 in rw (e, f) (refl {a = true})
 
 pub un_stands : {around : Around} {before : Option Token} {R : Written} (op : Un) → IsTrue (is_code around) → Calm (written R []) → ((last : Option Token) → At around last R) → At around before (un_line op R)
 un_stands {around} {before} {R} un.Not c h k = code_sign (codes "!") c refl refl (not_sign before (written R []) h) (k _)
