@@ -20,27 +20,29 @@ use Rattle.qk_print.specs.Printing.{expression_text, operand_text, operands_text
 use Rattle.qk_print.specs.Lists.{printed_of, keyed_of, operated_of}
 use Rattle.qk_print.proofs.Equations as eq
 use Rattle.qk_print.proofs.Standing_kept.{same_operand, same_head, same_record, same_markup, same_statement_form}
-use Rattle.qk_print.proofs.Laying.{Lays, lays_nothing, lays_so, lays_space}
+use Rattle.qk_print.proofs.Lines as lines
+use Rattle.qk_print.proofs.Lines.{Line, ◌▹◌, no_field}
+use Rattle.qk_print.proofs.Laying.{Lays_as, lays_nothing, lays_so, lays_space}
 use Rattle.qk_print.proofs.Lettering as x
 use Rattle.qk_ast.specs.Grammar.{Word, Free, Taken, Expression, Undefined, Null, Truth, Number, Quoted, Named, Whole, Holed, Bracketed, Listed, Recorded, Markup, Log, Keys, Str, Trunc, Postfix, Prefix, Chain, Choice, Function, Operands, No_operand, Operand, Holes, Last_part, Part_hole, Link, Dot, Index, Call, Links, No_link, Next_link, Arguments, No_argument, Only, Comma, Field, Key, Quoted_key, Short, Fields, No_field, Only_field, Field_comma, Element, Closed, Open, Fragment, Attributes, No_attribute, Set, Set_text, Set_value, Children, No_child, Text_child, Empty_child, Value_child, Element_child, Body, Block_body, Step_body, Step, Plain_step, Assign, Bump, Statement, Const, Scope, Let, Return, Return_step, If, If_else, While, For_of, Break, Continue, Delete, Block, Do, Statements, No_statement, Then, Part, Block_part, Statement_part}
 use Rattle.qk_print.proofs.Rewriting.{as_operand, unless_markup, as_right_side, word_characters, text_child, value_child, first_of_operands, either_way, built, built_operands, built_holes, built_link, built_links, built_arguments, built_field, built_fields, built_element, built_attributes, built_children, built_body, built_step, built_statement, built_statements, built_part}
 use Rattle.qk_ast.specs.Spelling.{Writing, ◌⨾◌, tokens, word_tokens, bin_sign, assign_sign, bump_sign, scope_tokens, operands_tokens, holes_tokens, link_tokens, links_tokens, arguments_tokens, field_tokens, fields_tokens, element_tokens, attributes_tokens, children_tokens, body_tokens, step_tokens, statement_tokens, statements_tokens, part_tokens, comma, sign, word, curly}
-use Rattle.qk_print.proofs.Laid_parts.{Numbers, ◌⊹◌, un_numbers, bin_numbers, assign_numbers, bump_numbers, truth_numbers, word_numbers, binding_numbers, parameters_numbers, scope_numbers, lays_by, right_side_laid, Matched, comma_space, no_argument, then_arguments_laid, some_argument, no_field, then_fields_laid, some_field, lays_braced, binding_laid, parameters_laid, lays_child, no_child, lays_opened, tag_is}
+use Rattle.qk_print.proofs.Laid_parts.{Numbers, ◌⊹◌, un_numbers, bin_numbers, assign_numbers, bump_numbers, truth_numbers, word_numbers, binding_numbers, parameters_numbers, scope_numbers, lays_by, right_side_laid, Matched, comma_space, no_argument, then_arguments_laid, some_argument, then_fields_laid, some_field, lays_braced, binding_laid, parameters_laid, lays_child, no_child, lays_opened, tag_is}
 
 abbrev Text_of : ℕ → Expression → Text
 Text_of n v = expression_text (tree n v)
 
-operand_laid : (next : Option Bin) (v : Expression) (n : ℕ) → Lays (tokens (built v)) (Text_of n v) → Lays (tokens (as_operand next (built v))) (operand_text next (printed_of (tree n v)))
+operand_laid : (next : Option Bin) (v : Expression) (n : ℕ) → Lays_as (lines.line (built v)) (tokens (built v)) (Text_of n v) → Lays_as (lines.line (as_operand next (built v))) (tokens (as_operand next (built v))) (operand_text next (printed_of (tree n v)))
 operand_laid next v n h = lays_by _ _ (built v) _ (same_operand next v n) h
 
-hole_laid : (v : Expression) (n : ℕ) → Lays (tokens (built v)) (Text_of n v) → Lays (tokens (unless_markup (built v))) (hole_text (printed_of (tree n v)))
+hole_laid : (v : Expression) (n : ℕ) → Lays_as (lines.line (built v)) (tokens (built v)) (Text_of n v) → Lays_as (lines.line (unless_markup (built v))) (tokens (unless_markup (built v))) (hole_text (printed_of (tree n v)))
 hole_laid v n h = lays_by _ _ (built v) _ (ap not (same_markup v n)) h
 
 first_of : (os : Operands) (n : ℕ) → first_of_operands os ≡ first_operator (map operated_of (operands_tree n os))
 first_of No_operand n = refl
 first_of (Operand op v more) n = refl
 
-word_laid : (w : Word) → Lays (word_tokens w) (word_text w)
+word_laid : (w : Word) → Lays_as (lines.word_line w) (word_tokens w) (word_text w)
 word_laid (Free a) = x.lays_name a
 word_laid (Taken a) = x.lays_reserved a
 
@@ -60,8 +62,8 @@ quotient_is p q = ap (λ r. p ++ r) (sym (append-nil _))
 matched_cons : (c : Bool) (p : Text) (ps : List Text) → c ≡ false → Matched c (p ∷ ps)
 matched_cons c p ps e = subst (λ d. Matched d (p ∷ ps)) (sym e) tt
 
-text_child_laid : (text : Characters) (cs : Children) (ts : List Expr) → Lays (children_tokens cs) (flat_map (λ c. c) (map child_text (map printed_of ts)))
-    → Lays (children_tokens (text_child text cs)) (flat_map (λ c. c) (map child_text (map printed_of (before_children text ts))))
+text_child_laid : (text : Characters) (cs : Children) (ts : List Expr) → Lays_as (lines.children_line cs) (children_tokens cs) (flat_map (λ c. c) (map child_text (map printed_of ts)))
+    → Lays_as (lines.children_line (text_child text cs)) (children_tokens (text_child text cs)) (flat_map (λ c. c) (map child_text (map printed_of (before_children text ts))))
 text_child_laid [] cs ts h = h
 text_child_laid (c ∷ text) cs ts h = (x.lays_brace ⊹ (x.lays_quoted (c ∷ text) ⊹ x.lays_end_brace)) ⊹ h
 
@@ -96,17 +98,17 @@ abbrev pub no_statement : Statements → Bool
 no_statement No_statement = true
 no_statement (Then k ks) = false
 
-block_laid : (w : Writing) (ps : List Text) → Lays w (flat_map (λ p. p ++ codes " ") ps) → Lays (curly w) (block_text ps)
+block_laid : {l : Line} (w : Writing) (ps : List Text) → Lays_as l w (flat_map (λ p. p ++ codes " ") ps) → Lays_as (lines.block l) (curly w) (block_text ps)
 block_laid w ps h = (x.lays_brace ⊹ lays_space) ⊹ (h ⊹ x.lays_end_brace)
 
-if_laid : Lays (word (codes "if") ⨾ sign (codes "(")) (codes "if (")
+if_laid : Lays_as (lines.word (codes "if") ▹ lines.space ▹ lines.sign (codes "(")) (word (codes "if") ⨾ sign (codes "(")) (codes "if (")
 if_laid = x.lays_if ⊹ (lays_space ⊹ x.lays_open)
 
 if_is : (p : Text) (ps : List Text) → codes "if (" ++ (p ++ (codes ") " ++ block_text ps)) ≡ codes "if (" ++ (p ++ (codes ") " ++ (block_text ps ++ else_text [])))
 if_is p ps = ap (λ q. codes "if (" ++ (p ++ (codes ") " ++ q))) (sym (append-nil (block_text ps)))
 
-either_way_laid : (test : Expression) (ys ns : Statements) (p : Text) (ps qs : List Text) → Matched (no_statement ns) qs → Lays (tokens test) p → Lays (statements_tokens ys) (flat_map (λ r. r ++ codes " ") ps) → Lays (statements_tokens ns) (flat_map (λ r. r ++ codes " ") qs)
-    → Lays (statement_tokens (either_way test ys ns)) (codes "if (" ++ (p ++ (codes ") " ++ (block_text ps ++ else_text qs))))
+either_way_laid : (test : Expression) (ys ns : Statements) (p : Text) (ps qs : List Text) → Matched (no_statement ns) qs → Lays_as (lines.line test) (tokens test) p → Lays_as (lines.statements_line ys) (statements_tokens ys) (flat_map (λ r. r ++ codes " ") ps) → Lays_as (lines.statements_line ns) (statements_tokens ns) (flat_map (λ r. r ++ codes " ") qs)
+    → Lays_as (lines.statement_line (either_way test ys ns)) (statement_tokens (either_way test ys ns)) (codes "if (" ++ (p ++ (codes ") " ++ (block_text ps ++ else_text qs))))
 either_way_laid test ys No_statement p ps [] m h k l = lays_so _ _ _ (if_is p ps) (if_laid ⊹ (h ⊹ ((x.lays_close ⊹ lays_space) ⊹ block_laid _ ps k)))
 either_way_laid test ys No_statement p ps (q ∷ qs) m h k l = absurd m
 either_way_laid test ys (Then s' ss) p ps [] m h k l = absurd m
@@ -115,25 +117,25 @@ either_way_laid test ys (Then s' ss) p ps (q ∷ qs) m h k l = if_laid ⊹ (h �
 function_is : (p q : Text) → (codes "(" ++ (p ++ codes ")")) ++ (codes " => " ++ q) ≡ codes "(" ++ (p ++ (codes ") => " ++ q))
 function_is p q = ap (λ r. 40 ∷ r) (append_assoc p (codes ")") (codes " => " ++ q))
 
-scope_texts : (more : List Characters) → Lays (scope_tokens more) (flat_map (λ later. codes ", " ++ later) (map bytes more))
+scope_texts : (more : List Characters) → Lays_as (lines.scope_line more) (scope_tokens more) (flat_map (λ later. codes ", " ++ later) (map bytes more))
 scope_texts [] = lays_nothing
 scope_texts (a ∷ more) = (comma_space ⊹ x.lays_name a) ⊹ scope_texts more
 
-scope_laid : (a : Characters) (more : List Characters) → Lays (statement_tokens (Scope a more)) (statement_text (statement_tree 0 (Scope a more)))
+scope_laid : (a : Characters) (more : List Characters) → Lays_as (lines.statement_line (Scope a more)) (statement_tokens (Scope a more)) (statement_text (statement_tree 0 (Scope a more)))
 unfolding encode_utf8 shape-the_row-Expr-0 hidden-the_row-Expr-0 hidden-the_row-Expr-2 hidden-the_row-Link-5 hidden
 scope_laid a more = (x.lays_const ⊹ lays_space) ⊹ ((x.lays_square ⊹ ((x.lays_name a ⊹ scope_texts more) ⊹ x.lays_end_square)) ⊹ (x.lays_apart x.lays_equals ⊹ ((x.lays_name (codes "useLexicalScope") ⊹ (x.lays_open ⊹ x.lays_close)) ⊹ x.lays_semicolon)))
 
-assigned : (target : Expression) (op : AssignOp) (v : Expression) (n m : ℕ) → Lays (tokens (built target)) (Text_of n target) → Lays (tokens (built v)) (Text_of m v)
-    → Lays (tokens (built target) ⨾ assign_sign op ⨾ tokens (as_right_side op (built v))) (expression_text (e.Assign op (tree n target) (tree m v)))
+assigned : (target : Expression) (op : AssignOp) (v : Expression) (n m : ℕ) → Lays_as (lines.line (built target)) (tokens (built target)) (Text_of n target) → Lays_as (lines.line (built v)) (tokens (built v)) (Text_of m v)
+    → Lays_as (lines.line (built target) ▹ lines.assign_line op ▹ lines.line (as_right_side op (built v))) (tokens (built target) ⨾ assign_sign op ⨾ tokens (as_right_side op (built v))) (expression_text (e.Assign op (tree n target) (tree m v)))
 assigned target op v n m h k = lays_so _ _ _ (sym (eq.text_of_assign op (tree n target) (tree m v))) (h ⊹ (x.lays_assign op ⊹ right_side_laid op v m k))
 
-bumped : (target : Expression) (up : Bool) (n : ℕ) → Lays (tokens (built target)) (Text_of n target) → Lays (tokens (built target) ⨾ bump_sign up) (expression_text (e.Step up (tree n target)))
+bumped : (target : Expression) (up : Bool) (n : ℕ) → Lays_as (lines.line (built target)) (tokens (built target)) (Text_of n target) → Lays_as (lines.line (built target) ▹ lines.bump_line up) (tokens (built target) ⨾ bump_sign up) (expression_text (e.Step up (tree n target)))
 bumped target up n h = lays_so _ _ _ (sym (eq.text_of_step up (tree n target))) (h ⊹ x.lays_bump up)
 
 -- ---- the whole
 
 mutual
-  pub laid : (v : Expression) (n : ℕ) (R : List Token) → Numbers (tokens v R) → Lays (tokens (built v)) (Text_of n v) × Numbers R
+  pub laid : (v : Expression) (n : ℕ) (R : List Token) → Numbers (tokens v R) → Lays_as (lines.line (built v)) (tokens (built v)) (Text_of n v) × Numbers R
   laid Undefined n R g = (x.lays_undefined, g)
   laid Null n R g = (x.lays_null, g)
   laid (Truth c) n R g = (x.lays_truth c, truth_numbers c R g)
@@ -148,7 +150,7 @@ mutual
   )
   laid (Bracketed v) n R g = let a = laid v n (Token.Punct (codes ")") ∷ R) g in (a.0, a.1)
   laid (Listed arguments) n R g = let a = arguments_laid arguments n (Token.Punct (codes "]") ∷ R) g in (lays_so _ _ _ (sym (eq.text_of_list (arguments_tree n arguments))) (x.lays_square ⊹ (a.0 ⊹ x.lays_end_square)), a.2)
-  laid (Recorded fields) n R g = let a = fields_laid fields n (Token.Punct (codes "}") ∷ R) g in (lays_so _ _ _ (sym (eq.text_of_record (fields_tree n fields))) (lays_braced _ _ a.0), a.2)
+  laid (Recorded fields) n R g = let a = fields_laid fields n (Token.Punct (codes "}") ∷ R) g in (lays_so _ _ _ (sym (eq.text_of_record (fields_tree n fields))) (lays_braced _ _ _ a.1 a.0), a.2)
   laid (Markup element) n R g = let a = element_laid element n R g in (lays_so _ _ _ (sym (eq.text_of_markup (element_tree n element))) a.0, a.1)
   laid (Log v) n R g = let a = laid v n (Token.Punct (codes ")") ∷ R) g in
       (lays_so _ _ _ (sym (eq.text_of_known known.Log (tree n v ∷ []))) ((x.lays_console ⊹ (x.lays_dot ⊹ (x.lays_log ⊹ x.lays_open))) ⊹ (lays_so _ _ _ (sym (append-nil _)) a.0 ⊹ x.lays_close)), a.1)
@@ -180,12 +182,12 @@ mutual
     a.1,
   )
 
-  pub operands_laid : (os : Operands) (n : ℕ) (R : List Token) → Numbers (operands_tokens os R) → Lays (operands_tokens (built_operands os)) (operands_text (map operated_of (operands_tree n os))) × Numbers R
+  pub operands_laid : (os : Operands) (n : ℕ) (R : List Token) → Numbers (operands_tokens os R) → Lays_as (lines.operands_line (built_operands os)) (operands_tokens (built_operands os)) (operands_text (map operated_of (operands_tree n os))) × Numbers R
   operands_laid No_operand n R g = (lays_nothing, g)
   operands_laid (Operand op v more) n R g = let a = laid v n (operands_tokens more R) (bin_numbers op _ g) in let m = n + arrows (tokens v) in let d = operands_laid more m R a.1 in
       (x.lays_bin op ⊹ (lays_so _ _ _ (ap (λ o. operand_text o (printed_of (tree n v))) (first_of more m)) (operand_laid (first_of_operands more) v n a.0) ⊹ d.0), d.1)
 
-  pub holes_laid : (hs : Holes) (n : ℕ) (R : List Token) → Numbers (holes_tokens hs R) → Lays (holes_tokens (built_holes hs)) (codes "}" ++ (parts_and_holes (parts_tree hs) (map hole_text (map printed_of (holes_tree n hs))) ++ codes "`")) × Numbers R
+  pub holes_laid : (hs : Holes) (n : ℕ) (R : List Token) → Numbers (holes_tokens hs R) → Lays_as (lines.holes_line (built_holes hs)) (holes_tokens (built_holes hs)) (codes "}" ++ (parts_and_holes (parts_tree hs) (map hole_text (map printed_of (holes_tree n hs))) ++ codes "`")) × Numbers R
   holes_laid (Last_part pieces) n R g = (lays_so _ _ _ (ap (λ p. codes "}" ++ (p ++ codes "`")) (sym (append-nil _))) (x.lays_last_part (map piece_value pieces)), g)
   holes_laid (Part_hole pieces v more) n R g = let a = laid v n (holes_tokens more R) g in let m = n + arrows (tokens v) in let d = holes_laid more m R a.1 in (
     lays_so _ _ _ (later_is (template_part (value pieces)) (parts_and_holes (parts_tree more) (map hole_text (map printed_of (holes_tree m more)))) (hole_text (printed_of (tree n v))))
@@ -193,35 +195,35 @@ mutual
     d.1,
   )
 
-  pub link_laid : (k : Link) (n : ℕ) (R : List Token) → Numbers (link_tokens k R) → Lays (link_tokens (built_link k)) (link_text (link_tree n k)) × Numbers R
+  pub link_laid : (k : Link) (n : ℕ) (R : List Token) → Numbers (link_tokens k R) → Lays_as (lines.link_line (built_link k)) (link_tokens (built_link k)) (link_text (link_tree n k)) × Numbers R
   link_laid (Dot w) n R g = (x.lays_dot ⊹ word_laid w, word_numbers w R g)
   link_laid (Index v) n R g = let a = laid v n (Token.Punct (codes "]") ∷ R) g in (x.lays_square ⊹ (a.0 ⊹ x.lays_end_square), a.1)
   link_laid (Call arguments) n R g = let a = arguments_laid arguments n (Token.Punct (codes ")") ∷ R) g in (lays_so _ _ _ (sym (eq.text_of_call (arguments_tree n arguments))) (x.lays_open ⊹ (a.0 ⊹ x.lays_close)), a.2)
 
-  pub links_laid : (ls : Links) (n : ℕ) (R : List Token) → Numbers (links_tokens ls R) → Lays (links_tokens (built_links ls)) (flat_map link_text (links_tree n ls)) × Numbers R
+  pub links_laid : (ls : Links) (n : ℕ) (R : List Token) → Numbers (links_tokens ls R) → Lays_as (lines.links_line (built_links ls)) (links_tokens (built_links ls)) (flat_map link_text (links_tree n ls)) × Numbers R
   links_laid No_link n R g = (lays_nothing, g)
   links_laid (Next_link link more) n R g = let a = link_laid link n (links_tokens more R) g in let d = links_laid more (n + arrows (link_tokens link)) R a.1 in (a.0 ⊹ d.0, d.1)
 
-  pub arguments_laid : (as' : Arguments) (n : ℕ) (R : List Token) → Numbers (arguments_tokens as' R) → Lays (arguments_tokens (built_arguments as')) (commas (map expression_text (arguments_tree n as')))
+  pub arguments_laid : (as' : Arguments) (n : ℕ) (R : List Token) → Numbers (arguments_tokens as' R) → Lays_as (lines.arguments_line (built_arguments as')) (arguments_tokens (built_arguments as')) (commas (map expression_text (arguments_tree n as')))
       × Matched (no_argument (built_arguments as')) (map expression_text (arguments_tree n as')) × Numbers R
   arguments_laid No_argument n R g = (lays_nothing, tt, g)
   arguments_laid (Only v) n R g = let a = laid v n R g in (lays_so _ _ _ (sym (append-nil _)) a.0, tt, a.1)
   arguments_laid (Comma v more) n R g = let a = laid v n (comma (arguments_tokens more R)) g in let d = arguments_laid more (n + arrows (tokens v)) R a.1 in
       (then_arguments_laid (built v) (built_arguments more) _ _ d.1 a.0 d.0, matched_cons _ _ _ (some_argument (built v) (built_arguments more)), d.2)
 
-  pub field_laid : (f : Field) (n : ℕ) (R : List Token) → Numbers (field_tokens f R) → Lays (field_tokens (built_field f)) (field_text (keyed_of (field_tree n f))) × Numbers R
+  pub field_laid : (f : Field) (n : ℕ) (R : List Token) → Numbers (field_tokens f R) → Lays_as (lines.field_line (built_field f)) (field_tokens (built_field f)) (field_text (keyed_of (field_tree n f))) × Numbers R
   field_laid (Key w v) n R g = let a = laid v n R (word_numbers w _ g) in (lays_so _ _ _ (ap quoted (word_bytes w)) (x.lays_quoted (word_characters w)) ⊹ ((x.lays_colon ⊹ lays_space) ⊹ a.0), a.1)
   field_laid (Quoted_key quote pieces v) n R g = let a = laid v n R g in (x.lays_quoted (map piece_value pieces) ⊹ ((x.lays_colon ⊹ lays_space) ⊹ a.0), a.1)
   field_laid (Short a) n R g = (x.lays_quoted a ⊹ ((x.lays_colon ⊹ lays_space) ⊹ x.lays_name a), g)
 
-  pub fields_laid : (fs : Fields) (n : ℕ) (R : List Token) → Numbers (fields_tokens fs R) → Lays (fields_tokens (built_fields fs)) (commas (map field_text (map keyed_of (fields_tree n fs))))
+  pub fields_laid : (fs : Fields) (n : ℕ) (R : List Token) → Numbers (fields_tokens fs R) → Lays_as (lines.fields_line (built_fields fs)) (fields_tokens (built_fields fs)) (commas (map field_text (map keyed_of (fields_tree n fs))))
       × Matched (no_field (built_fields fs)) (map field_text (map keyed_of (fields_tree n fs))) × Numbers R
   fields_laid No_field n R g = (lays_nothing, tt, g)
   fields_laid (Only_field f) n R g = let a = field_laid f n R g in (lays_so _ _ _ (sym (append-nil _)) a.0, tt, a.1)
   fields_laid (Field_comma f more) n R g = let a = field_laid f n (comma (fields_tokens more R)) g in let d = fields_laid more (n + arrows (field_tokens f)) R a.1 in
       (then_fields_laid (built_field f) (built_fields more) _ _ d.1 a.0 d.0, matched_cons _ _ _ (some_field (built_field f) (built_fields more)), d.2)
 
-  pub element_laid : (el : Element) (n : ℕ) (R : List Token) → Numbers (element_tokens el R) → Lays (element_tokens (built_element el)) (jsx (element_tree n el)) × Numbers R
+  pub element_laid : (el : Element) (n : ℕ) (R : List Token) → Numbers (element_tokens el R) → Lays_as (lines.element_line (built_element el)) (element_tokens (built_element el)) (jsx (element_tree n el)) × Numbers R
   element_laid (Closed tag attributes) n R g = let a = attributes_laid attributes n (Token.Punct (codes "/>") ∷ R) g in
       (lays_so _ _ _ (tag_is tag (map attribute_text (map keyed_of (attributes_tree n attributes))) [] ∙ sym (eq.text_of_element (tag_tree tag) (attributes_tree n attributes) [])) (x.lays_tag ⊹ (x.lays_name tag ⊹ (a.0 ⊹ x.lays_tag_closed))), a.1)
   element_laid (Open tag attributes children end) n R g = let a = attributes_laid attributes n (sign (codes ">") (children_tokens children (Token.Punct (codes "</") ∷ Token.Name end ∷ Token.Punct (codes ">") ∷ R))) g in
@@ -230,14 +232,14 @@ mutual
   element_laid (Fragment children) n R g = let d = children_laid children n (Token.Punct (codes "</>") ∷ R) g in
       (lays_so _ _ _ (sym (eq.text_of_element t.Fragment [] (children_tree n children))) (x.lays_fragment ⊹ (d.0 ⊹ x.lays_fragment_closing)), d.2)
 
-  pub attributes_laid : (as' : Attributes) (n : ℕ) (R : List Token) → Numbers (attributes_tokens as' R) → Lays (attributes_tokens (built_attributes as')) (flat_map (λ a. a) (map attribute_text (map keyed_of (attributes_tree n as')))) × Numbers R
+  pub attributes_laid : (as' : Attributes) (n : ℕ) (R : List Token) → Numbers (attributes_tokens as' R) → Lays_as (lines.attributes_line (built_attributes as')) (attributes_tokens (built_attributes as')) (flat_map (λ a. a) (map attribute_text (map keyed_of (attributes_tree n as')))) × Numbers R
   attributes_laid No_attribute n R g = (lays_nothing, g)
   attributes_laid (Set a more) n R g = let d = attributes_laid more n R g in ((lays_space ⊹ (x.lays_name a ⊹ ((x.lays_equals ⊹ x.lays_brace) ⊹ (x.lays_true ⊹ x.lays_end_brace)))) ⊹ d.0, d.1)
   attributes_laid (Set_text a quote text more) n R g = let d = attributes_laid more n R g in ((lays_space ⊹ (x.lays_name a ⊹ ((x.lays_equals ⊹ x.lays_brace) ⊹ (x.lays_quoted (decoded text) ⊹ x.lays_end_brace)))) ⊹ d.0, d.1)
   attributes_laid (Set_value a v more) n R g = let c = laid v n (sign (codes "}") (attributes_tokens more R)) g in let d = attributes_laid more (n + arrows (tokens v)) R c.1 in
       ((lays_space ⊹ (x.lays_name a ⊹ ((x.lays_equals ⊹ x.lays_brace) ⊹ (c.0 ⊹ x.lays_end_brace)))) ⊹ d.0, d.1)
 
-  pub children_laid : (cs : Children) (n : ℕ) (R : List Token) → Numbers (children_tokens cs R) → Lays (children_tokens (built_children cs)) (flat_map (λ c. c) (map child_text (map printed_of (children_tree n cs))))
+  pub children_laid : (cs : Children) (n : ℕ) (R : List Token) → Numbers (children_tokens cs R) → Lays_as (lines.children_line (built_children cs)) (children_tokens (built_children cs)) (flat_map (λ c. c) (map child_text (map printed_of (children_tree n cs))))
       × Matched (no_child (built_children cs)) (map child_text (map printed_of (children_tree n cs))) × Numbers R
   children_laid No_child n R g = (lays_nothing, tt, g)
   children_laid (Text_child text more) n R g = let d = children_laid more n R g in (text_child_laid (jsx_text text) (built_children more) (children_tree n more) d.0, text_child_matched (jsx_text text) (built_children more) (children_tree n more) d.1, d.2)
@@ -247,18 +249,18 @@ mutual
   children_laid (Element_child element more) n R g = let a = element_laid element n (children_tokens more R) g in let d = children_laid more (n + arrows (element_tokens element)) R a.1 in
       (lays_so _ _ _ (sym (eq.text_of_markup (element_tree n element))) a.0 ⊹ d.0, tt, d.2)
 
-  pub body_laid : (d : Body) (n : ℕ) (R : List Token) → Numbers (body_tokens d R) → Lays (body_tokens (built_body d)) (body_text (body_tree n d)) × Numbers R
+  pub body_laid : (d : Body) (n : ℕ) (R : List Token) → Numbers (body_tokens d R) → Lays_as (lines.body_line (built_body d)) (body_tokens (built_body d)) (body_text (body_tree n d)) × Numbers R
   body_laid (Block_body block) n R g = let a = statements_laid block n (Token.Punct (codes "}") ∷ R) g in (lays_so _ _ _ (sym (eq.text_of_body (statements_tree n block))) ((x.lays_brace ⊹ lays_space) ⊹ (a.0 ⊹ x.lays_end_brace)), a.2)
   body_laid (Step_body (Plain_step v)) n R g = let a = laid v n R g in (lays_so _ _ _ (sym (eq.text_of_value (tree n v))) (lays_by _ _ (built v) _ (ap not (same_record v n)) a.0), a.1)
   body_laid (Step_body (Assign target op v)) n R g = let a = laid target n (assign_sign op (tokens v R)) g in let m = n + arrows (tokens target) in let c = laid v m R (assign_numbers op _ a.1) in (lays_so _ _ _ (sym (eq.text_of_value (e.Assign op (tree n target) (tree m v)))) (assigned target op v n m a.0 c.0), c.1)
   body_laid (Step_body (Bump target up)) n R g = let a = laid target n (bump_sign up R) g in (lays_so _ _ _ (sym (eq.text_of_value (e.Step up (tree n target)))) (bumped target up n a.0), bump_numbers up R a.1)
 
-  pub step_laid : (k : Step) (n : ℕ) (R : List Token) → Numbers (step_tokens k R) → Lays (step_tokens (built_step k)) (expression_text (step_tree n k)) × Numbers R
+  pub step_laid : (k : Step) (n : ℕ) (R : List Token) → Numbers (step_tokens k R) → Lays_as (lines.step_line (built_step k)) (step_tokens (built_step k)) (expression_text (step_tree n k)) × Numbers R
   step_laid (Plain_step v) n R g = laid v n R g
   step_laid (Assign target op v) n R g = let a = laid target n (assign_sign op (tokens v R)) g in let m = n + arrows (tokens target) in let c = laid v m R (assign_numbers op _ a.1) in (assigned target op v n m a.0 c.0, c.1)
   step_laid (Bump target up) n R g = let a = laid target n (bump_sign up R) g in (bumped target up n a.0, bump_numbers up R a.1)
 
-  pub statement_laid : (k : Statement) (n : ℕ) (R : List Token) → Numbers (statement_tokens k R) → Lays (statement_tokens (built_statement k)) (statement_text (statement_tree n k)) × Numbers R
+  pub statement_laid : (k : Statement) (n : ℕ) (R : List Token) → Numbers (statement_tokens k R) → Lays_as (lines.statement_line (built_statement k)) (statement_tokens (built_statement k)) (statement_text (statement_tree n k)) × Numbers R
   statement_laid (Const binding v) n R g = let a = laid v n (Token.Punct (codes ";") ∷ R) (binding_numbers binding _ g) in
       ((x.lays_const ⊹ lays_space) ⊹ (binding_laid binding ⊹ (x.lays_apart x.lays_equals ⊹ (a.0 ⊹ x.lays_semicolon))), a.1)
   statement_laid (Scope a more) n R g = (scope_laid a more, scope_numbers more _ g)
@@ -285,13 +287,13 @@ mutual
   statement_laid (Do (Assign target op v)) n R g = let a = laid target n (assign_sign op (tokens v (Token.Punct (codes ";") ∷ R))) g in let m = n + arrows (tokens target) in let c = laid v m (Token.Punct (codes ";") ∷ R) (assign_numbers op _ a.1) in (assigned target op v n m a.0 c.0 ⊹ x.lays_semicolon, c.1)
   statement_laid (Do (Bump target up)) n R g = let a = laid target n (bump_sign up (Token.Punct (codes ";") ∷ R)) g in (bumped target up n a.0 ⊹ x.lays_semicolon, bump_numbers up (Token.Punct (codes ";") ∷ R) a.1)
 
-  pub statements_laid : (ss : Statements) (n : ℕ) (R : List Token) → Numbers (statements_tokens ss R) → Lays (statements_tokens (built_statements ss)) (flat_map (λ p. p ++ codes " ") (map statement_text (statements_tree n ss)))
+  pub statements_laid : (ss : Statements) (n : ℕ) (R : List Token) → Numbers (statements_tokens ss R) → Lays_as (lines.statements_line (built_statements ss)) (statements_tokens (built_statements ss)) (flat_map (λ p. p ++ codes " ") (map statement_text (statements_tree n ss)))
       × Matched (no_statement (built_statements ss)) (map statement_text (statements_tree n ss)) × Numbers R
   statements_laid No_statement n R g = (lays_nothing, tt, g)
   statements_laid (Then statement more) n R g = let a = statement_laid statement n (statements_tokens more R) g in let d = statements_laid more (n + arrows (statement_tokens statement)) R a.1 in
       ((a.0 ⊹ lays_space) ⊹ d.0, tt, d.2)
 
-  pub part_laid : (q : Part) (n : ℕ) (R : List Token) → Numbers (part_tokens q R) → Lays (statements_tokens (built_part q)) (flat_map (λ p. p ++ codes " ") (map statement_text (part_tree n q)))
+  pub part_laid : (q : Part) (n : ℕ) (R : List Token) → Numbers (part_tokens q R) → Lays_as (lines.statements_line (built_part q)) (statements_tokens (built_part q)) (flat_map (λ p. p ++ codes " ") (map statement_text (part_tree n q)))
       × Matched (no_statement (built_part q)) (map statement_text (part_tree n q)) × Numbers R
   part_laid (Block_part block) n R g = let a = statements_laid block n (Token.Punct (codes "}") ∷ R) g in (a.0, a.1, a.2)
   part_laid (Statement_part statement) n R g = let a = statement_laid statement n R g in (lays_so _ _ _ (sym (append-nil _)) (a.0 ⊹ lays_space), tt, a.1)

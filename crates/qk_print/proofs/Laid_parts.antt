@@ -18,7 +18,9 @@ use Rattle.qk_print.specs.Letters.{Text, commas, braced, unless_bare}
 use Rattle.qk_print.specs.Shapes.{is_right_side}
 use Rattle.qk_print.specs.Printing.{expression_text, pattern_text, named_text, element_text}
 use Rattle.qk_print.proofs.Standing_kept.{same_markup}
-use Rattle.qk_print.proofs.Laying.{Lays, lays_nothing, lays_then, lays_so, lays_space}
+use Rattle.qk_print.proofs.Lines as lines
+use Rattle.qk_print.proofs.Lines.{Line, ◌▹◌, no_field}
+use Rattle.qk_print.proofs.Laying.{Lays_as, lays_nothing, lays_then, lays_so, lays_space}
 use Rattle.qk_print.proofs.Lettering as x
 use Rattle.qk_ast.specs.Grammar.{Names, Last_name, Last_comma, Next_name, Binding, Plain, Fields_of, Bindings, No_binding, Only_binding, Binding_comma, Parameters, Bare, In_brackets, Word, Free, Taken, Expression, Undefined, Null, Truth, Number, Quoted, Named, Whole, Holed, Bracketed, Listed, Recorded, Markup, Log, Keys, Str, Trunc, Postfix, Prefix, Chain, Choice, Function, Arguments, No_argument, Only, Comma, Field, Fields, No_field, Only_field, Field_comma, Attributes, Children, No_child, Text_child, Empty_child, Value_child, Element_child}
 use Rattle.qk_print.proofs.Rewriting.{enclosed, as_right_side, is_marked_up, built_names, built_binding, then_bindings, built_bindings, built_parameters, then_arguments, then_fields, value_child, opened, built}
@@ -31,7 +33,7 @@ Numbers (Token.Int digits ∷ ts) = (signed_decimal (pos (number_after 10 0 digi
 Numbers (token ∷ ts) = Numbers ts
 
 infixr 55 ◌⊹◌
-abbrev pub ◌⊹◌ : {u v : Writing} {p q : Text} → Lays u p → Lays v q → Lays (u ⨾ v) (p ++ q)
+abbrev pub ◌⊹◌ : {l m : Line} {u v : Writing} {p q : Text} → Lays_as l u p → Lays_as m v q → Lays_as (l ▹ m) (u ⨾ v) (p ++ q)
 (h ⊹ k) = lays_then _ _ _ _ h k
 
 -- ---- numbers behind signs
@@ -97,14 +99,14 @@ scope_numbers (a ∷ more) R g = scope_numbers more R g
 
 -- ---- brackets
 
-pub lays_enclosed : (c : Bool) (y : Expression) (p : Text) → Lays (tokens y) p → Lays (tokens (enclosed c y)) (unless_bare c p)
+pub lays_enclosed : (c : Bool) (y : Expression) (p : Text) → Lays_as (lines.line y) (tokens y) p → Lays_as (lines.line (enclosed c y)) (tokens (enclosed c y)) (unless_bare c p)
 lays_enclosed true y p h = h
 lays_enclosed false y p h = x.lays_open ⊹ (h ⊹ x.lays_close)
 
-pub lays_by : (c d : Bool) (y : Expression) (p : Text) → c ≡ d → Lays (tokens y) p → Lays (tokens (enclosed d y)) (unless_bare c p)
+pub lays_by : (c d : Bool) (y : Expression) (p : Text) → c ≡ d → Lays_as (lines.line y) (tokens y) p → Lays_as (lines.line (enclosed d y)) (tokens (enclosed d y)) (unless_bare c p)
 lays_by c d y p e h = lays_so _ _ _ (ap (λ f. unless_bare f p) (sym e)) (lays_enclosed d y p h)
 
-pub right_side_laid : (op : AssignOp) (v : Expression) (n : ℕ) → Lays (tokens (built v)) (expression_text (tree n v)) → Lays (tokens (as_right_side op (built v))) (unless_bare (is_right_side op (tree n v)) (expression_text (tree n v)))
+pub right_side_laid : (op : AssignOp) (v : Expression) (n : ℕ) → Lays_as (lines.line (built v)) (tokens (built v)) (expression_text (tree n v)) → Lays_as (lines.line (as_right_side op (built v))) (tokens (as_right_side op (built v))) (unless_bare (is_right_side op (tree n v)) (expression_text (tree n v)))
 right_side_laid assign.Set v n h = h
 right_side_laid assign.Add v n h = lays_by _ _ (built v) _ (ap not (same_markup v n)) h
 right_side_laid assign.Sub v n h = lays_by _ _ (built v) _ (ap not (same_markup v n)) h
@@ -122,7 +124,7 @@ Matched false (p ∷ ps) = Unit {0}
 pub commas_more : (p q : Text) (qs : List Text) → p ++ (codes ", " ++ commas (q ∷ qs)) ≡ commas (p ∷ q ∷ qs)
 commas_more p q qs = ap (λ r. p ++ r) (sym (append_assoc (codes ", ") q _))
 
-pub comma_space : Lays comma (codes ", ")
+pub comma_space : Lays_as lines.comma comma (codes ", ")
 comma_space = x.lays_comma ⊹ lays_space
 
 abbrev pub no_argument : Arguments → Bool
@@ -130,7 +132,7 @@ no_argument No_argument = true
 no_argument (Only y) = false
 no_argument (Comma y ys) = false
 
-pub then_arguments_laid : (y : Expression) (ys : Arguments) (p : Text) (ps : List Text) → Matched (no_argument ys) ps → Lays (tokens y) p → Lays (arguments_tokens ys) (commas ps) → Lays (arguments_tokens (then_arguments y ys)) (commas (p ∷ ps))
+pub then_arguments_laid : (y : Expression) (ys : Arguments) (p : Text) (ps : List Text) → Matched (no_argument ys) ps → Lays_as (lines.line y) (tokens y) p → Lays_as (lines.arguments_line ys) (arguments_tokens ys) (commas ps) → Lays_as (lines.arguments_line (then_arguments y ys)) (arguments_tokens (then_arguments y ys)) (commas (p ∷ ps))
 then_arguments_laid y No_argument p [] m h k = lays_so _ _ _ (sym (append-nil p)) h
 then_arguments_laid y No_argument p (q ∷ qs) m h k = absurd m
 then_arguments_laid y (Only z) p [] m h k = absurd m
@@ -143,12 +145,7 @@ some_argument y No_argument = refl
 some_argument y (Only z) = refl
 some_argument y (Comma z zs) = refl
 
-abbrev pub no_field : Fields → Bool
-no_field No_field = true
-no_field (Only_field g) = false
-no_field (Field_comma g gs) = false
-
-pub then_fields_laid : (f : Field) (fs : Fields) (p : Text) (ps : List Text) → Matched (no_field fs) ps → Lays (field_tokens f) p → Lays (fields_tokens fs) (commas ps) → Lays (fields_tokens (then_fields f fs)) (commas (p ∷ ps))
+pub then_fields_laid : (f : Field) (fs : Fields) (p : Text) (ps : List Text) → Matched (no_field fs) ps → Lays_as (lines.field_line f) (field_tokens f) p → Lays_as (lines.fields_line fs) (fields_tokens fs) (commas ps) → Lays_as (lines.fields_line (then_fields f fs)) (fields_tokens (then_fields f fs)) (commas (p ∷ ps))
 then_fields_laid f No_field p [] m h k = lays_so _ _ _ (sym (append-nil p)) h
 then_fields_laid f No_field p (q ∷ qs) m h k = absurd m
 then_fields_laid f (Only_field z) p [] m h k = absurd m
@@ -161,36 +158,38 @@ some_field f No_field = refl
 some_field f (Only_field g) = refl
 some_field f (Field_comma g gs) = refl
 
-pub lays_braced : (w : Writing) (ps : List Text) → Lays w (commas ps) → Lays (curly w) (braced ps)
-lays_braced w [] h = x.lays_brace ⊹ (lays_space ⊹ (h ⊹ x.lays_end_brace))
-lays_braced w (p ∷ ps) h = (x.lays_brace ⊹ lays_space) ⊹ (h ⊹ (lays_space ⊹ x.lays_end_brace))
+pub lays_braced : {l : Line} (c : Bool) (w : Writing) (ps : List Text) → Matched c ps → Lays_as l w (commas ps) → Lays_as (lines.braced c l) (curly w) (braced ps)
+lays_braced true w [] m h = x.lays_brace ⊹ (lays_space ⊹ (h ⊹ x.lays_end_brace))
+lays_braced true w (p ∷ ps) m h = absurd m
+lays_braced false w [] m h = absurd m
+lays_braced false w (p ∷ ps) m h = (x.lays_brace ⊹ lays_space) ⊹ (h ⊹ (lays_space ⊹ x.lays_end_brace))
 
 -- ---- names and patterns
 
-pub names_laid : (ns : Names) → Lays (names_tokens (built_names ns)) (commas (names_tree ns))
+pub some_names : (ns : Names) → Matched false (names_tree ns)
+some_names (Last_name c) = tt
+some_names (Last_comma c) = tt
+some_names (Next_name c cs) = tt
+
+pub names_laid : (ns : Names) → Lays_as (lines.names_line (built_names ns)) (names_tokens (built_names ns)) (commas (names_tree ns))
 names_laid (Last_name a) = lays_so _ _ _ (sym (append-nil (bytes a))) (x.lays_name a)
 names_laid (Last_comma a) = lays_so _ _ _ (sym (append-nil (bytes a))) (x.lays_name a)
 names_laid (Next_name a more) = more_names (names_tree more) (some_names more) (names_laid more)
   where
-    some_names : (ns : Names) → Matched false (names_tree ns)
-    some_names (Last_name c) = tt
-    some_names (Last_comma c) = tt
-    some_names (Next_name c cs) = tt
-
-    more_names : (ps : List Text) → Matched false ps → Lays (names_tokens (built_names more)) (commas ps) → Lays (names_tokens (Next_name a (built_names more))) (commas (bytes a ∷ ps))
+    more_names : (ps : List Text) → Matched false ps → Lays_as (lines.names_line (built_names more)) (names_tokens (built_names more)) (commas ps) → Lays_as (lines.names_line (Next_name a (built_names more))) (names_tokens (Next_name a (built_names more))) (commas (bytes a ∷ ps))
     more_names [] m k = absurd m
     more_names (q ∷ qs) m k = lays_so _ _ _ (commas_more (bytes a) q qs) (x.lays_name a ⊹ (comma_space ⊹ k))
 
-pub binding_laid : (d : Binding) → Lays (binding_tokens (built_binding d)) (pattern_text (binding_tree d))
+pub binding_laid : (d : Binding) → Lays_as (lines.binding_line (built_binding d)) (binding_tokens (built_binding d)) (pattern_text (binding_tree d))
 binding_laid (Plain a) = x.lays_name a
-binding_laid (Fields_of names) = lays_braced _ (names_tree names) (names_laid names)
+binding_laid (Fields_of names) = lays_braced false _ (names_tree names) (some_names names) (names_laid names)
 
 abbrev pub no_binding : Bindings → Bool
 no_binding No_binding = true
 no_binding (Only_binding g) = false
 no_binding (Binding_comma g gs) = false
 
-pub then_bindings_laid : (d : Binding) (ds : Bindings) (p : Text) (ps : List Text) → Matched (no_binding ds) ps → Lays (binding_tokens d) p → Lays (bindings_tokens ds) (commas ps) → Lays (bindings_tokens (then_bindings d ds)) (commas (p ∷ ps))
+pub then_bindings_laid : (d : Binding) (ds : Bindings) (p : Text) (ps : List Text) → Matched (no_binding ds) ps → Lays_as (lines.binding_line d) (binding_tokens d) p → Lays_as (lines.bindings_line ds) (bindings_tokens ds) (commas ps) → Lays_as (lines.bindings_line (then_bindings d ds)) (bindings_tokens (then_bindings d ds)) (commas (p ∷ ps))
 then_bindings_laid d No_binding p [] m h k = lays_so _ _ _ (sym (append-nil p)) h
 then_bindings_laid d No_binding p (q ∷ qs) m h k = absurd m
 then_bindings_laid d (Only_binding z) p [] m h k = absurd m
@@ -208,19 +207,19 @@ bindings_matched No_binding = tt
 bindings_matched (Only_binding d) = tt
 bindings_matched (Binding_comma d more) = subst (λ c. Matched c (pattern_text (binding_tree d) ∷ map pattern_text (bindings_tree more))) (sym (some_binding (built_binding d) (built_bindings more))) tt
 
-pub bindings_laid : (bs : Bindings) → Lays (bindings_tokens (built_bindings bs)) (commas (map pattern_text (bindings_tree bs)))
+pub bindings_laid : (bs : Bindings) → Lays_as (lines.bindings_line (built_bindings bs)) (bindings_tokens (built_bindings bs)) (commas (map pattern_text (bindings_tree bs)))
 bindings_laid No_binding = lays_nothing
 bindings_laid (Only_binding d) = lays_so _ _ _ (sym (append-nil _)) (binding_laid d)
 bindings_laid (Binding_comma d more) = then_bindings_laid (built_binding d) (built_bindings more) _ _ (bindings_matched more) (binding_laid d) (bindings_laid more)
 
-pub parameters_laid : (ps : Parameters) → Lays (parameters_tokens (built_parameters ps)) (codes "(" ++ (commas (map pattern_text (parameters_tree ps)) ++ codes ")"))
+pub parameters_laid : (ps : Parameters) → Lays_as (lines.parameters_line (built_parameters ps)) (parameters_tokens (built_parameters ps)) (codes "(" ++ (commas (map pattern_text (parameters_tree ps)) ++ codes ")"))
 parameters_laid (Bare a) = x.lays_open ⊹ (lays_so _ _ _ (sym (append-nil (bytes a))) (x.lays_name a) ⊹ x.lays_close)
 parameters_laid (In_brackets bs) = x.lays_open ⊹ (bindings_laid bs ⊹ x.lays_close)
 
 -- ---- JSX
 
-pub lays_child : (y : Expression) (cs : Children) (p q : Text) (c : Bool) → c ≡ is_marked_up y → Lays (tokens y) p → Lays (children_tokens cs) q
-    → Lays (children_tokens (value_child y cs)) ((elim c [ true ↦ p | false ↦ codes "{" ++ (p ++ codes "}") ]) ++ q)
+pub lays_child : (y : Expression) (cs : Children) (p q : Text) (c : Bool) → c ≡ is_marked_up y → Lays_as (lines.line y) (tokens y) p → Lays_as (lines.children_line cs) (children_tokens cs) q
+    → Lays_as (lines.children_line (value_child y cs)) (children_tokens (value_child y cs)) ((elim c [ true ↦ p | false ↦ codes "{" ++ (p ++ codes "}") ]) ++ q)
 lays_child Undefined cs p q true e h k = absurd (false≢true (sym e))
 lays_child Undefined cs p q false e h k = (x.lays_brace ⊹ (h ⊹ x.lays_end_brace)) ⊹ k
 lays_child Null cs p q true e h k = absurd (false≢true (sym e))
@@ -271,8 +270,8 @@ no_child (Empty_child cs) = false
 no_child (Value_child y cs) = false
 no_child (Element_child y cs) = false
 
-pub lays_opened : (tag : Characters) (as' : Attributes) (cs : Children) (ps qs : List Text) → Matched (no_child cs) qs → Lays (attributes_tokens as') (flat_map (λ a. a) ps) → Lays (children_tokens cs) (flat_map (λ c. c) qs)
-    → Lays (element_tokens (opened tag as' cs)) (named_text (bytes tag) ps qs)
+pub lays_opened : (tag : Characters) (as' : Attributes) (cs : Children) (ps qs : List Text) → Matched (no_child cs) qs → Lays_as (lines.attributes_line as') (attributes_tokens as') (flat_map (λ a. a) ps) → Lays_as (lines.children_line cs) (children_tokens cs) (flat_map (λ c. c) qs)
+    → Lays_as (lines.element_line (opened tag as' cs)) (element_tokens (opened tag as' cs)) (named_text (bytes tag) ps qs)
 lays_opened tag as' No_child ps [] m h k = x.lays_tag ⊹ (x.lays_name tag ⊹ (h ⊹ x.lays_tag_closed))
 lays_opened tag as' No_child ps (q ∷ qs) m h k = absurd m
 lays_opened tag as' (Text_child t cs) ps [] m h k = absurd m

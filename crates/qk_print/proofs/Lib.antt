@@ -7,6 +7,7 @@ pub mod Values_kept
 pub mod Trees_kept
 pub mod Rules_kept
 pub mod Nesting_kept
+pub mod Lines
 pub mod Laying
 pub mod Quoting
 pub mod Lettering
@@ -20,3 +21,9 @@ pub mod Laid_parts
 pub mod Laid
 pub mod Laid_modules
 pub mod Integers
+pub mod Fitting
+pub mod Pieces_stand
+pub mod Neighbours
+pub mod Stands_parts
+pub mod Stands
+pub mod Standing_printed

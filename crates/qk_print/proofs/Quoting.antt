@@ -15,7 +15,7 @@ use mathlib.Core.Logic.{inl, inr}
 use Rattle.qk_ast.proofs.Pieces.{nat_is}
 use Rattle.qk_print.specs.Letters.{escaped}
 use Rattle.qk_print.proofs.Rewriting.{piece, control_piece}
-use Rattle.qk_print.proofs.Values_kept.{below, Each, among_marks}
+use Rattle.qk_print.proofs.Values_kept.{below, Each, among_marks, less, not_less}
 
 -- the piece spells the character, escaped
 abbrev Spells : List ℕ → Piece → ℕ → Type 0
@@ -24,12 +24,6 @@ Spells marks p c = (next : Characters) → encode_utf8_all (piece_spelling p nex
 control_spelled : (marks : List ℕ) (c : ℕ) → c < 32 → Spells marks (control_piece c) c
 unfolding encode_utf8
 control_spelled marks = below 32 (λ c. Spells marks (control_piece c) c) ((λ next. refl), ((λ next. refl), ((λ next. refl), ((λ next. refl), ((λ next. refl), ((λ next. refl), ((λ next. refl), ((λ next. refl), ((λ next. refl), ((λ next. refl), ((λ next. refl), ((λ next. refl), ((λ next. refl), ((λ next. refl), ((λ next. refl), ((λ next. refl), ((λ next. refl), ((λ next. refl), ((λ next. refl), ((λ next. refl), ((λ next. refl), ((λ next. refl), ((λ next. refl), ((λ next. refl), ((λ next. refl), ((λ next. refl), ((λ next. refl), ((λ next. refl), ((λ next. refl), ((λ next. refl), ((λ next. refl), ((λ next. refl), tt))))))))))))))))))))))))))))))))
-
-less : (m n : ℕ) → nat_lt m n ≡ true → m < n
-less m n h = search arith
-
-not_less : (m n : ℕ) → nat_lt m n ≡ false → n ≤ m
-not_less m n h = search arith
 
 is_less : (m n : ℕ) → n ≤ m → nat_lt m n ≡ false
 is_less m n h = search arith

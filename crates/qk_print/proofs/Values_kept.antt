@@ -1,5 +1,5 @@
 -- A printed piece stands for its character, and a printed text for its characters.
-use Rattle.std.specs.Prelude.{◌≡◌, refl, ℕ, zero, suc, ◌<◌, Bool, true, false, ◌||◌, if◌then◌else◌, ◌==◌, nat_lt, List, [], ◌∷◌, map, codes}
+use Rattle.std.specs.Prelude.{◌≡◌, refl, ℕ, zero, suc, ◌<◌, ◌≤◌, Bool, true, false, ◌||◌, if◌then◌else◌, ◌==◌, nat_lt, List, [], ◌∷◌, map, codes}
 use Rattle.std.proofs.Common.{ap, ◌∙◌, subst, arith}
 use Rattle.std.specs.List.{list_any}
 use Rattle.qk_ast.specs.Characters.{Characters}
@@ -35,8 +35,11 @@ among_marks P c (m ∷ ms) h k = choose (m == c) refl h (λ d. among_marks P c m
     choose true e d onward = subst P (nat_is m c e) k.0
     choose false e d onward = onward d
 
-less : (m n : ℕ) → nat_lt m n ≡ true → m < n
+pub less : (m n : ℕ) → nat_lt m n ≡ true → m < n
 less m n h = search arith
+
+pub not_less : (m n : ℕ) → nat_lt m n ≡ false → n ≤ m
+not_less m n h = search arith
 
 piece_of : (marks : List ℕ) → Each (λ c. piece_value (Piece.Escaped c) ≡ c) marks → (c : ℕ) → piece_value (piece marks c) ≡ c
 piece_of marks k c = choose (nat_lt c 32) (list_any (λ m. m == c) marks) (λ h. control_is c (less c 32 h)) (λ h. among_marks (λ c. piece_value (Piece.Escaped c) ≡ c) c marks h k)

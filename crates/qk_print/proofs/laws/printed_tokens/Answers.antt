@@ -10,6 +10,7 @@ use Rattle.qk_print.proofs.Nesting_kept.{module_deep}
 use Rattle.qk_print.proofs.Laid_parts.{Numbers}
 use Rattle.qk_print.proofs.Laid_modules.{module_laid}
 use Rattle.qk_print.proofs.Integers.{numbers_of}
+use Rattle.qk_print.proofs.Standing_printed.{printed_stands}
 use Rattle.qk_print.proofs.laws.printed_tokens.Goals as goal
 
 pub returns : goal.returns
@@ -20,6 +21,7 @@ returns c = λ text tokens m read p flat.
     let end = Written.End [] in (
       lays.line end,
       lays.spells end ∙ append-nil _ ∙ ap print_text p.means,
+      printed_stands p.text read.written_as read.stand (read.read ∙ sym p.spells) p.keeps,
       record { text = built_module p.text; spells = sym (lays.reads end); keeps = module_kept p.text p.keeps; means = same_module p.text ∙ p.means },
       omega (arith, nested, flat),
     )
