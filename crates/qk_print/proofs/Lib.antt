@@ -27,3 +27,4 @@ pub mod Neighbours
 pub mod Stands_parts
 pub mod Stands
 pub mod Standing_printed
+pub mod Printed_tokens

@@ -1,16 +1,11 @@
 -- What is known of the text that is printed.
-use Rattle.std.specs.Prelude.{◌≡◌, ◌≤◌, List, [], None}
-use Rattle.std.specs.Str.{encode_utf8_all}
+use Rattle.std.specs.Prelude.{ℕ, List}
 use Rattle.qk_ast.specs.declared.Form.TheVariants.{Source, Built}
 use Rattle.qk_ast.specs.declared.Module.{Module}
-use Rattle.qk_ast.specs.Characters.{Characters}
-use Rattle.qk_ast.specs.Tokens.{Token, Tokens, Written, written, tokens_of, stands}
-use Rattle.qk_ast.specs.Depth.{module_depth}
-use Rattle.qk_ast.specs.Derives.{Parses, deepest}
+use Rattle.qk_ast.specs.Derives.{Derives}
 use Rattle.qk_print.specs.Printing.{print_text}
 
--- The printed text of a module that a source text derives is gaps and tokens by turns, each of which may stand where it stands. The tokens derive
--- the module as a built file, written so that it nests no deeper than built files may.
-abbrev pub PrintedTokens : Type 0
-PrintedTokens = (text : Characters) (tokens : List Token) (m : Module) → Tokens text tokens → (p : Parses Source tokens m) → module_depth p.text ≤ deepest Source
-    → (printed : Written) × (encode_utf8_all (written printed []) ≡ print_text m) × stands [] None printed [] × (q : Parses Built (tokens_of printed) m) × (module_depth q.text ≤ deepest Built)
+-- The printed text of a module that a source derives is a built file that derives the same module, within the limits of built files on length and
+-- nesting.
+abbrev pub PrintedReadsBack : Type 0
+PrintedReadsBack = (source : List ℕ) (m : Module) → Derives Source source m → Derives Built (print_text m) m

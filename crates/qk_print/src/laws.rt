@@ -1,9 +1,8 @@
 //! A law of the printed text: the contract of a function that does nothing.
 
-ghost use Rattle.qk_print.specs.Laws.{PrintedTokens};
+ghost use Rattle.qk_print.specs.Laws.{PrintedReadsBack};
 
-/// The printed text of a module that a source derives is made of tokens, with gaps between, that derive the module as a built file, and nests no
-/// deeper than built files may.
-pub fn printed_tokens()
-    ensures { PrintedTokens }
+/// What is printed of a module that a source derives is a built file that derives the same module, within the limits of built files.
+pub fn printed_reads_back()
+    ensures { PrintedReadsBack }
 {}

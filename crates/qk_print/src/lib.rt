@@ -10,7 +10,7 @@ mod put;
 mod standing;
 mod statements;
 
-pub use laws::printed_tokens;
+pub use laws::printed_reads_back;
 pub use print::{PrintFault, print_module};
 
 #[cfg(test)]
