@@ -7,7 +7,11 @@ use Rattle.qk_ast.specs.Tokens.{Piece, Written, Blank, written, tokens_of, stand
 use Rattle.qk_ast.specs.Grammar.{Names, Last_name, Last_comma, Next_name, Plain, No_binding, In_brackets, Free, Expression, Number, Named, Markup, Postfix, Function, Dot, Call, No_link, Only, Element, Closed, Open, Attributes, No_attribute, Set_text, Set_value, No_child, Value_child, Block_body, Step_body, Plain_step, Bump, Const, Return_step, Statements, No_statement, Then, Module_text}
 use Rattle.qk_ast.specs.Spelling.{module_tokens}
 use Rattle.qk_ast.specs.Tree.{module_tree}
-use Rattle.qk_ast.specs.Rules.{is_distinct}
+
+-- no text stands twice
+abbrev pub is_distinct : List Characters → Bool
+is_distinct [] = true
+is_distinct (text ∷ texts) = not (is_one_of text texts) && is_distinct texts
 
 -- id="ID", and onClick$={() => NAME.value++} or with `--`
 pub data First_attribute : Type 0 where

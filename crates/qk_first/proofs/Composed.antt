@@ -22,7 +22,7 @@ use Rattle.qk_ast.specs.declared.Field.{Field}
 use Rattle.qk_ast.specs.declared.Jsx.{Jsx, out-Jsx, roll-Jsx, roll-out-Jsx}
 use Rattle.qk_ast.specs.Characters.{Characters, is_one_of, number_after}
 use Rattle.qk_ast.specs.Grammar.{Names, Last_name, Last_comma, Next_name, Element, Then, Return_step, Plain_step, Markup, No_statement}
-use Rattle.qk_ast.specs.Rules.{is_distinct}
+use Rattle.qk_ast.specs.First.{is_distinct}
 use Rattle.qk_ast.specs.JsxText.{decoded}
 use Rattle.qk_ast.specs.Tree.{module_tree, names_tree, statements_tree, element_tree, attributes_tree, tag_tree}
 use Rattle.qk_ast.specs.First.{First_text, First_attribute, Id, On_click, Shape, Empty, Shown, Fits, module_of, block_of, element_of, attributes_of, names_of, are_qwik_names, qwik_names, attribute_name, attributes_fit}

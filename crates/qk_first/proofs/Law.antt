@@ -7,7 +7,7 @@ use mathlib.Core.Path.{sym, subst}
 use Rattle.qk_ast.specs.declared.Module.{Module}
 use Rattle.qk_ast.specs.Characters.{Characters, is_one_of, number_after}
 use Rattle.qk_ast.specs.Tree.{names_tree}
-use Rattle.qk_ast.specs.Rules.{is_distinct}
+use Rattle.qk_ast.specs.First.{is_distinct}
 use Rattle.qk_ast.specs.First.{First_attribute, Shape, Selfclosing, Empty, Shown, names_of, are_qwik_names, attribute_name, state_fits}
 use Rattle.qk_meaning.specs.Value.{Text, Site, Value, Int, Ref, Closure, Fields, end, field}
 use Rattle.qk_meaning.specs.World.{Object, Props, Signal, Loc, Hook, Kept}

@@ -2,7 +2,7 @@
 use Rattle.std.specs.Prelude.{◌≡◌, refl, ℤ, nat_le, Bool, true, false, ◌&&◌, List, [], ◌∷◌, map, None, IsTrue}
 use Rattle.std.proofs.Common.{arith}
 use Rattle.std.proofs.lemmas.Bool.{false≢true, le-leb}
-use Rattle.qk_ast.specs.Rules.{is_distinct}
+use Rattle.qk_ast.specs.First.{is_distinct}
 use Rattle.qk_ast.specs.First.{First_attribute, Id, On_click, attribute_name, attributes_fit}
 use Rattle.qk_meaning.specs.Value.{Text, Site, Element, Value, Ref, Elem, Closure, end, field}
 use Rattle.qk_meaning.specs.Parts.{packed}

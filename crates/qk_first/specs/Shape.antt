@@ -16,7 +16,7 @@ use Rattle.qk_ast.specs.declared.Field.{Field}
 use Rattle.qk_ast.specs.declared.Jsx.{Jsx, out-Jsx}
 use Rattle.qk_ast.specs.Characters.{is_one_of}
 use Rattle.qk_ast.specs.Tokens.{reserved_words}
-use Rattle.qk_ast.specs.Rules.{is_distinct}
+use Rattle.qk_ast.specs.First.{is_distinct}
 use Rattle.qk_ast.specs.Tree.{module_tree}
 use Rattle.qk_ast.specs.First.{First_text, Fits, module_of, are_qwik_names, first_tags, is_short_word}
 use Rattle.qk_meaning.specs.Value.{Text}

@@ -17,7 +17,8 @@ pub enum PrintFault {
     Memory,
 }
 
-/// Appends the text of a module as built files have it: a line for each import and item. What is printed reads back as the module.
+/// Appends the text of a module as built files have it: a line for each import and item. Of a module that a source derives,
+/// what is printed reads back as the module (`printed_reads_back`).
 ///
 /// # Errors
 ///

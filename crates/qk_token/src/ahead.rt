@@ -115,7 +115,7 @@ impl Kind {
     }
 }
 
-/// The binary operator that a sign is, but for those that only chains of signs of two letters and more have.
+/// The binary operator that a sign is.
 fn bin_of(sign: &str) -> Option<Bin>
     ensures { result ≡ spec.bin_of (chars sign.now) }
 {

@@ -13,6 +13,7 @@ mod stop;
 mod words;
 
 pub use command::run;
+pub use qk_script::{Event, ScriptFault, ScriptItem, parse_script};
 
 #[cfg(test)]
 mod shape_tests;

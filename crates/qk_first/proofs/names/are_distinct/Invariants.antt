@@ -1,5 +1,5 @@
 use Rattle.std.proofs.Common.{◌≡◌, length}
-use Rattle.qk_ast.specs.Rules.{is_distinct}
+use Rattle.qk_ast.specs.First.{is_distinct}
 use Rattle.qk_first.proofs.names.are_distinct.Given as goal
 
 abbrev pub invariant-loop-names : goal.invariant-loop-names
