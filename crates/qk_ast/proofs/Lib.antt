@@ -1,4 +1,7 @@
 pub mod Examples
+pub mod NameSets
+pub mod Bound
+pub mod Walks
 pub mod FirstDerives
 mod Fragment
 mod Refused

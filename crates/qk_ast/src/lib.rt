@@ -1,8 +1,12 @@
 //! The syntax tree of JSX modules, and the grammar that says which module a text derives.
 #![tactic(auto)]
 
+mod free_names;
 pub mod laws;
+mod name_set;
+mod walk;
 
+pub use free_names::{AstFault, free};
 use qk_shared::{List, Shared, Text};
 
 /// A module as it is written, or a file that was built.
@@ -227,3 +231,6 @@ pub struct Site {
     pub number: u32,
     pub dollar: bool,
 }
+
+#[cfg(test)]
+mod tests;
