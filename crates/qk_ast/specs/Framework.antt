@@ -1,9 +1,9 @@
 -- The names of the framework, the names that stand for fixed calls, and the names of modules and symbols.
-use Rattle.std.specs.Prelude.{ℕ, ◌+◌, ◌*◌, ◌-◌, Bool, true, false, not, ◌&&◌, ◌||◌, ◌==◌, nat_le, nat_lt, List, [], ◌∷◌, ◌++◌, length, codes}
+use Rattle.std.specs.Prelude.{Bool, true, false, not, ◌&&◌, ◌||◌, ◌==◌, nat_le, nat_lt, List, [], ◌∷◌, length, codes}
 use Rattle.qk_ast.specs.declared.Form.{Form}
 use Rattle.qk_ast.specs.declared.Form.TheVariants.{Source, Built}
 use Rattle.qk_ast.specs.Characters.{is_small_letter, is_digit, every, number_after}
-use Rattle.qk_ast.specs.Texts.{Text, same_text, is_among}
+use Rattle.qk_ast.specs.Texts.{Text, is_among}
 
 abbrev pub framework : Text
 framework = codes "@builder.io/qwik"

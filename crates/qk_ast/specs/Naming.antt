@@ -1,5 +1,5 @@
 -- The rules of names: which mention of a name breaks which rule, and the first that does.
-use Rattle.std.specs.Prelude.{Bool, true, false, not, ◌&&◌, ◌||◌, List, [], ◌∷◌, ◌++◌, flat_map, Option, Some, None}
+use Rattle.std.specs.Prelude.{Bool, true, false, not, ◌&&◌, ◌||◌, List, [], ◌∷◌, ◌++◌, flat_map, Some, None}
 use Rattle.qk_ast.specs.declared.Form.{Form}
 use Rattle.qk_ast.specs.declared.Form.TheVariants.{Source, Built}
 use Rattle.qk_ast.specs.declared.Module.{Module}
@@ -8,7 +8,7 @@ use Rattle.qk_ast.specs.declared.ScopeKind.TheVariants.{UnknownName, DuplicateNa
 use Rattle.qk_ast.specs.Texts.{Text, same_text}
 use Rattle.qk_ast.specs.Names.{is_listed, others_than}
 use Rattle.qk_ast.specs.Framework.{framework, may_import, is_fixed, is_taken, is_symbol}
-use Rattle.qk_ast.specs.Scopes.{Kind, Constant, Variable, Tracker, Local, meaning}
+use Rattle.qk_ast.specs.Scopes.{Kind, Variable, Local, meaning}
 use Rattle.qk_ast.specs.Mentions.{Mention, Imports, Roots, Declares, Uses, module_mentions, import_names, item_names}
 
 -- A broken rule and the name that breaks it.

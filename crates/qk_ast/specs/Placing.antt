@@ -1,5 +1,5 @@
 -- The rules of places: what at a spot breaks which rule, and the first that does. They are for modules whose names keep the rules of names.
-use Rattle.std.specs.Prelude.{ℕ, ◌+◌, Bool, true, false, not, ◌&&◌, ◌||◌, ◌==◌, nat_le, List, [], ◌∷◌, ◌++◌, length, flat_map, Option, Some, None, codes}
+use Rattle.std.specs.Prelude.{ℕ, Bool, true, false, not, ◌&&◌, ◌||◌, ◌==◌, nat_le, List, [], ◌∷◌, ◌++◌, length, flat_map, Option, Some, None, codes}
 use Rattle.qk_ast.specs.declared.Module.{Module}
 use Rattle.qk_ast.specs.declared.Import.{Import}
 use Rattle.qk_ast.specs.declared.Item.{Item as Root_item}
@@ -8,16 +8,16 @@ use Rattle.qk_ast.specs.declared.Tag.{Tag}
 use Rattle.qk_ast.specs.declared.Un.TheVariants as un
 use Rattle.qk_ast.specs.declared.RuleKind.{RuleKind}
 use Rattle.qk_ast.specs.declared.RuleKind.TheVariants.{HookPlace, DollarArgument, RootValue, NotComponent, TagRefused, TooManySites}
-use Rattle.qk_ast.specs.declared.Expr.{Expr, Row_of-Expr, end_of-Expr, more_of-Expr, Row_of-Field, end_of-Field, more_of-Field, Row_of-Link, end_of-Link, more_of-Link, more_of-Arrow}
-use Rattle.qk_ast.specs.declared.Body.{Body, Block' as Body_block'}
+use Rattle.qk_ast.specs.declared.Expr.{Expr, Row_of-Expr, end_of-Expr, more_of-Expr, Row_of-Field, end_of-Field, more_of-Field, more_of-Arrow}
+use Rattle.qk_ast.specs.declared.Body.{Body}
 use Rattle.qk_ast.specs.Texts.{Text, same_text, is_among}
 use Rattle.qk_ast.specs.Names.{is_listed}
 use Rattle.qk_ast.specs.Arrows.{item_arrows, of_kind}
 use Rattle.qk_ast.specs.Sources.{Named_module, module_of, source_module}
 use Rattle.qk_ast.specs.Framework.{framework}
-use Rattle.qk_ast.specs.Scopes.{Kind, Constant, Variable, Tracker, Local, Scope, meaning, is_local, is_track}
+use Rattle.qk_ast.specs.Scopes.{Tracker, Local, Scope, meaning, is_local, is_track}
 use Rattle.qk_ast.specs.Mentions.{name_in}
-use Rattle.qk_ast.specs.Spots.{Standing, Anywhere, Root_value, Hook_value, Hook_statement, Argument, Called, Not_called, With, Spot, Item, Named, Tagged, Attributed, called, statement_hooks, item_spots}
+use Rattle.qk_ast.specs.Spots.{Standing, Root_value, Hook_value, Hook_statement, Argument, Called, Not_called, With, Spot, Item, Named, Tagged, Attributed, called, statement_hooks, item_spots}
 use Rattle.qk_ast.specs.Tags.{is_attribute, is_element, is_text_literal}
 
 -- A broken rule and what breaks it.

@@ -1,11 +1,11 @@
 -- The scopes around a place of a module's code, and what a name means there.
-use Rattle.std.specs.Prelude.{Bool, true, false, ◌&&◌, ◌||◌, List, [], ◌∷◌, ◌++◌, map, Option, Some, None, codes}
+use Rattle.std.specs.Prelude.{Bool, true, false, ◌||◌, List, [], ◌∷◌, ◌++◌, map, Option, Some, None, codes}
 use Rattle.qk_ast.specs.declared.Pattern.{Pattern}
 use Rattle.qk_ast.specs.declared.Stmt.{Stmt, Row_of-Stmt, end_of-Stmt, more_of-Stmt}
 use Rattle.qk_ast.specs.declared.Body.{Body, Block' as Body_block'}
 use Rattle.qk_ast.specs.Texts.{Text, same_text}
 use Rattle.qk_ast.specs.Names.{is_listed, pattern_names, patterns_names}
-use Rattle.qk_ast.specs.Arrows.{Mark, Unmarked, Marked, Tasked}
+use Rattle.qk_ast.specs.Arrows.{Mark, Tasked}
 
 -- How a local is declared: once and for all (parameters and the names of a `for` too), by `let`, or as the `track` of a task.
 pub data Kind : Type 0 where
