@@ -2,8 +2,8 @@
 
 ghost use Rattle.qk_print.specs.Laws.{PrintedTokens};
 
-/// The printed text of a module that a source derives is made of tokens, with gaps between, that derive the module as a built file, and nests no
-/// deeper than built files may.
+/// The printed text of a module that a source derives is made of tokens, with gaps between. Each may stand where it stands, they derive the module
+/// as a built file, and it nests no deeper than built files may.
 pub fn printed_tokens()
     ensures { PrintedTokens }
 {}
