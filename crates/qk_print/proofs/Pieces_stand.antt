@@ -58,7 +58,7 @@ template_piece next = piece_by (λ p. is_template_piece p next ≡ true) (codes 
     plain : (c : ℕ) → 32 ≤ c → list_any (λ m. m == c) (codes "`\\$") ≡ false → is_template_piece (Piece.Plain c) next ≡ true
     plain c h f =
         both _ _ (both _ _ (both _ _ (ap not (differs c 96 (unmarked c (codes "`\\$") f 96 refl))) (ap not (differs c 92 (unmarked c (codes "`\\$") f 92 refl)))) (ap not (differs c 13 (low c 13 h (omega arith)))))
-            (ap (λ b. not (b && is_front (codes "{") next)) (differs c 36 (unmarked c (codes "`\\$") f 36 refl)))
+        (ap (λ b. not (b && is_front (codes "{") next)) (differs c 36 (unmarked c (codes "`\\$") f 36 refl)))
 
 pub template_stands : (cs next : Characters) → IsTrue (are_template_pieces (template_pieces cs) next)
 template_stands [] next = refl

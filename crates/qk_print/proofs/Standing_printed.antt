@@ -23,9 +23,13 @@ nothing_stands : Outermost (λ R. R)
 nothing_stands = record { here = λ R k. k _ }
 
 import_stands : (i : Import_line) (R : List Token) → Fit [] (import_tokens i R) → Outermost (import_line (built_import i)) × Fit [] R
-import_stands i R h = let n = names_stand i.names (Braces ∷ []) _ refl (past_brace refl (past h)) in
-    (record { here = λ Q k. keyword (codes "import") refl refl ((braced_stands false _ n.0).here _ refl refl (λ u. name_apart (codes "from") refl refl refl
-        (code_token refl (refl, text_stands (map piece_value i.source)) (code_sign (codes ";") refl refl refl refl (fed (k _)))))) }, past_sign refl refl refl (past (past (past n.1))))
+import_stands i R h = let n = names_stand i.names (Braces ∷ []) _ refl (past_brace refl (past h)) in (
+  record {
+    here = λ Q k. keyword (codes "import") refl refl ((braced_stands false _ n.0).here _ refl refl (λ u. name_apart (codes "from") refl refl refl
+        (code_token refl (refl, text_stands (map piece_value i.source)) (code_sign (codes ";") refl refl refl refl (fed (k _))))));
+  },
+  past_sign refl refl refl (past (past (past n.1))),
+)
 
 imports_stand : (is : List Import_line) (R : List Token) → Fit [] (imports_tokens is R) → Outermost (imports_line (map built_import is)) × Fit [] R
 imports_stand [] R h = (nothing_stands, h)

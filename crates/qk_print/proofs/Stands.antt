@@ -106,28 +106,36 @@ mutual
   stood (Recorded fields) around R c p h = let s = fields_stand fields [] (Braces ∷ around) (Token.Punct (codes "}") ∷ R) refl p (past_brace c h) in
       (record { here = λ a t Q d n k. (braced_stands (no_field (built_fields fields)) _ s.0).here Q d n (λ u. k u tt); calm = λ q Q. absurd (false≢true q) }, past s.1)
   stood (Markup element) around R c p h = let s = element_stands element around R p h in (record { here = λ a t Q d n k. s.0.here a t Q d (λ u. k u tt); calm = λ q Q. absurd (false≢true q) }, s.1)
-  stood (Log v) around R c p h = let s = stood v around (Token.Punct (codes ")") ∷ R) c p (past_sign c refl refl (past (past_sign c refl refl (past h)))) in
-      (record {
-        here = λ a t Q d n k. code_token d (refl, refl, refl) (code_sign (codes ".") d refl refl refl (code_token d (refl, refl, refl) (code_sign (codes "(") d refl refl refl (inside (built v) s.0 d refl refl (λ u q. code_sign (codes ")") d refl refl refl (k _ refl))))));
-        calm = λ q Q. (refl, refl);
-      }, past_sign c refl refl s.1)
-  stood (Keys v) around R c p h = let s = stood v around (Token.Punct (codes ")") ∷ R) c p (past_sign c refl refl (past (past_sign c refl refl (past h)))) in
-      (record {
-        here = λ a t Q d n k. code_token d (refl, refl, refl) (code_sign (codes ".") d refl refl refl (code_token d (refl, refl, refl) (code_sign (codes "(") d refl refl refl (inside (built v) s.0 d refl refl (λ u q. code_sign (codes ")") d refl refl refl (k _ refl))))));
-        calm = λ q Q. (refl, refl);
-      }, past_sign c refl refl s.1)
-  stood (Str v) around R c p h = let s = stood v around (Token.Punct (codes ")") ∷ R) c p (past_sign c refl refl (past h)) in
-      (record {
-        here = λ a t Q d n k. code_token d (refl, refl, refl) (code_sign (codes "(") d refl refl refl (inside (built v) s.0 d refl refl (λ u q. code_sign (codes ")") d refl refl refl (k _ refl))));
-        calm = λ q Q. (refl, refl);
-      }, past_sign c refl refl s.1)
+  stood (Log v) around R c p h = let s = stood v around (Token.Punct (codes ")") ∷ R) c p (past_sign c refl refl (past (past_sign c refl refl (past h)))) in (
+    record {
+      here = λ a t Q d n k. code_token d (refl, refl, refl) (code_sign (codes ".") d refl refl refl (code_token d (refl, refl, refl) (code_sign (codes "(") d refl refl refl (inside (built v) s.0 d refl refl (λ u q. code_sign (codes ")") d refl refl refl (k _ refl))))));
+      calm = λ q Q. (refl, refl);
+    },
+    past_sign c refl refl s.1,
+  )
+  stood (Keys v) around R c p h = let s = stood v around (Token.Punct (codes ")") ∷ R) c p (past_sign c refl refl (past (past_sign c refl refl (past h)))) in (
+    record {
+      here = λ a t Q d n k. code_token d (refl, refl, refl) (code_sign (codes ".") d refl refl refl (code_token d (refl, refl, refl) (code_sign (codes "(") d refl refl refl (inside (built v) s.0 d refl refl (λ u q. code_sign (codes ")") d refl refl refl (k _ refl))))));
+      calm = λ q Q. (refl, refl);
+    },
+    past_sign c refl refl s.1,
+  )
+  stood (Str v) around R c p h = let s = stood v around (Token.Punct (codes ")") ∷ R) c p (past_sign c refl refl (past h)) in (
+    record {
+      here = λ a t Q d n k. code_token d (refl, refl, refl) (code_sign (codes "(") d refl refl refl (inside (built v) s.0 d refl refl (λ u q. code_sign (codes ")") d refl refl refl (k _ refl))));
+      calm = λ q Q. (refl, refl);
+    },
+    past_sign c refl refl s.1,
+  )
   stood (Trunc v w) around R c p h = let s = stood v around (Token.Punct (codes "/") ∷ tokens w (Token.Punct (codes ")") ∷ R)) c p.2 (past_sign c refl refl (past (past_sign c refl refl (past h)))) in
-      let r = stood w around (Token.Punct (codes ")") ∷ R) c p.3 (past_sign c refl refl s.1) in
-      (record {
-        here = λ a t Q d n k. code_token d (refl, refl, refl) (code_sign (codes ".") d refl refl refl (code_token d (refl, refl, refl) (code_sign (codes "(") d refl refl refl
-            (operand None (built v) s.0 d refl (λ u q. code_apart (codes "/") d refl refl (λ cs. refl) (operand None (built w) r.0 d refl (λ u q. code_sign (codes ")") d refl refl refl (k _ refl))))))));
-        calm = λ q Q. (refl, refl);
-      }, past_sign c refl refl r.1)
+      let r = stood w around (Token.Punct (codes ")") ∷ R) c p.3 (past_sign c refl refl s.1) in (
+        record {
+          here = λ a t Q d n k. code_token d (refl, refl, refl) (code_sign (codes ".") d refl refl refl (code_token d (refl, refl, refl) (code_sign (codes "(") d refl refl refl
+              (operand None (built v) s.0 d refl (λ u q. code_apart (codes "/") d refl refl (λ cs. refl) (operand None (built w) r.0 d refl (λ u q. code_sign (codes ")") d refl refl refl (k _ refl))))))));
+          calm = λ q Q. (refl, refl);
+        },
+        past_sign c refl refl r.1,
+      )
   stood (Postfix x link more) around R c p h = let s = stood x around (link_tokens link (links_tokens more R)) c p.2 h in let r = link_stands link around (links_tokens more R) c p.3 s.1 in
       let m = links_stand more around R c p.4 r.1 in let l = m.0 (built_link link) r.0 in
       (record { here = λ a t Q d n k. head (built x) s.0 d (soft_link (built_link link) _) (λ u. l.here Q d n k); calm = λ q Q. calm_head (built x) s.0 _ }, m.1)

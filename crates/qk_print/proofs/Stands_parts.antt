@@ -290,13 +290,17 @@ soft_attributes (Set_text a quote text more) R h = (refl, refl)
 soft_attributes (Set_value a y more) R h = (refl, refl)
 
 pub closed_stands : (tag : Characters) (as' : Attributes) → IsTrue (is_attribute_name tag []) → Attributes_stand as' → Element_stands (Closed tag as')
-closed_stands tag as' h m = record { here = λ around before R j k. let f = tag_front tag _ h in
-    begins_jsx (codes "<") j f.0 f.1 (tag_token (name_before tag _ h (soft_attributes as' _ (refl, refl))) (m.here _ (λ u. tag_token refl (k _)))) }
+closed_stands tag as' h m = record {
+  here = λ around before R j k. let f = tag_front tag _ h in
+      begins_jsx (codes "<") j f.0 f.1 (tag_token (name_before tag _ h (soft_attributes as' _ (refl, refl))) (m.here _ (λ u. tag_token refl (k _))));
+}
 
 open_stands : (tag : Characters) (as' : Attributes) (cs : Children) → IsTrue (is_attribute_name tag []) → Attributes_stand as' → Children_stand cs → Element_stands (Open tag as' cs tag)
-open_stands tag as' cs h m l = record { here = λ around before R j k. let f = tag_front tag _ h in let e = tag_front tag _ h in
-    begins_jsx (codes "<") j f.0 f.1 (tag_token (name_before tag _ h (soft_attributes as' _ (refl, refl))) (m.here _ (λ u. tag_token refl
-        (l.here _ (λ v. child_token e.2 (end_token (name_before tag _ h (refl, refl)) (end_token refl (k _)))))))) }
+open_stands tag as' cs h m l = record {
+  here = λ around before R j k. let f = tag_front tag _ h in let e = tag_front tag _ h in
+      begins_jsx (codes "<") j f.0 f.1 (tag_token (name_before tag _ h (soft_attributes as' _ (refl, refl))) (m.here _ (λ u. tag_token refl
+      (l.here _ (λ v. child_token e.2 (end_token (name_before tag _ h (refl, refl)) (end_token refl (k _))))))));
+}
 
 pub opened_stands : (tag : Characters) (as' : Attributes) (cs : Children) → IsTrue (is_attribute_name tag []) → Attributes_stand as' → Children_stand cs → Element_stands (opened tag as' cs)
 opened_stands tag as' No_child h m l = closed_stands tag as' h m
