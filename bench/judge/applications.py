@@ -33,6 +33,20 @@ PIECES = [
     "const { a, b } = c;", "{ a; }", "async ", "a: ", "...", "==", "!=", "?.", "**", "const", "let", ";",
 ]
 
+# What can be put around an expression, with the levels of nesting that it takes.
+WRAPPERS = [
+    ("(", ")", 1), ("[", "]", 1), ("- ", "", 1), ("!", "", 1), ("() => ", "", 1), ("a => ", "", 1),
+    ("a ? b : ", "", 1), ("a ? ", " : b", 1), ("<p>{", "}</p>", 2), ("<a>x <b/>{", "}</a>", 2), ("<>{", "}</>", 2),
+    ("<b a={", "}/>", 2), ("{ a: ", " }", 1), ("{ b, 'c': 1, a: ", " }", 1), ("`${", "}`", 1), ("`a${b}${", "}c`", 1),
+    ("f(", ")", 1), ("f(1, ", ")", 1), ("a[", "]", 1), ("String(", ")", 1), ("Math.trunc(a / ", ")", 1),
+    ("console.log(", ")", 1), ("(a)(b)[", "]", 1), ("() => { return ", "; }", 2), ("() => { { return ", "; } }", 3),
+    ("() => { if (a) return ", "; }", 3), ("() => { if (", ") b; }", 3), ("() => { if (a) b; else return ", "; }", 4),
+    ("() => { if (a) b; else { return ", "; } }", 4), ("() => { while (a) return ", "; }", 3),
+    ("() => { while (", ") { break; } }", 3), ("() => { for (const a of ", ") b; }", 3),
+    ("() => { for (const a of b) { return ", "; } }", 3), ("() => { const a = ", "; }", 2), ("({ a }) => ", "", 1),
+    ("() => { a[", "] = b; }", 3), ("() => { a = ", "; }", 2), ("() => { delete a[", "]; }", 3),
+]
+
 
 class Changer:
     """Changes one text, token by token. All choices come from one source of chance."""
@@ -178,16 +192,31 @@ class Changer:
         self.text = self.text[:at] + put + self.text[at + self.chance.randint(0, 1) :]
 
     def nest(self):
-        """Something nested about as deep as may be."""
+        """Something nested about as deep as may be, by one wrapper or by many kinds of them."""
         token = self.pick("name", "int", "text")
-        opener, closer = self.chance.choice(
-            [("(", ")"), ("[", "]"), ("- ", ""), ("!", ""), ("() => ", ""), ("a ? b : ", ""), ("<p>{", "}</p>"),
-             ("<a>", "</a>"), ("{a: ", "}"), ("`${", "}`"), ("f(", ")"), ("a ? ", " : b"), ("() => { return ", "; }"),
-             ("x => ", ""), ("<b a={", "}/>"), ("a[", "]")]
-        )
-        levels = self.chance.choice([1, 2, 3, 8, 10, 14, 15, 16, 28, 29, 30, 31, 32, 33, 40])
+        some = self.chance.sample(WRAPPERS, self.chance.choice([1, 1, 2, 5, len(WRAPPERS)]))
+        levels = self.chance.choice([1, 3, 8, 15, 26, 27, 28, 29, 30, 31, 32, 33, 40])
         if token:
-            self.replace(token, opener * levels + self.spelling(token) + closer * levels)
+            self.replace(token, nested(self.chance, some, levels, self.spelling(token)))
+
+
+def nested(chance, wrappers, levels, inner):
+    """The inner text with wrappers around it that take so many levels, or one more."""
+    before, after = [], []
+    while levels > 0:
+        opener, closer, cost = chance.choice(wrappers)
+        before.append(opener)
+        after.append(closer)
+        levels -= cost
+    return "".join(before) + inner + "".join(reversed(after))
+
+
+def nested_alone(chance):
+    """A module of one item that is nested about to the limit."""
+    some = chance.sample(WRAPPERS, chance.choice([1, 2, 5, len(WRAPPERS)]))
+    text = "const a = " + nested(chance, some, chance.randint(30, 34), chance.choice(["1", "a", "<p/>"])) + ";"
+    files = {"root.jsx": (chance.choice(["", "export "]) + text).encode()}
+    return changed(chance, files) if chance.random() < 0.3 else files
 
 
 def safe_tokens(text):
@@ -493,7 +522,9 @@ def changed(chance, files):
 def one_application(chance):
     """One application."""
     kind = chance.random()
-    if kind < 0.15:
+    if kind > 0.93:
+        return nested_alone(chance)
+    if kind < 0.1:
         return application(chance.choice(CASES)[0])
     files = chance.choice(ACCEPTED)
     if kind < 0.35:
