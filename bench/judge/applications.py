@@ -233,7 +233,7 @@ class Maker:
     def __init__(self, chance):
         self.chance = chance
         self.scopes = [[]]
-        self.components = ["App"]
+        self.components = []
         self.ids = []
         self.depth = 0
 
@@ -495,17 +495,39 @@ class Maker:
         if self.chance.random() < 0.3:
             self.scopes[-1].remove(name)
             self.ids.append(name)
-            return f'const {name} = createContextId("{name}");'
+            return f'export const {name} = createContextId("{name}");'
         return f"export const {name} = " + self.one_of(
             self.literal, self.arrow, lambda: '[1, -2, { a: "b" }]', lambda: "{ x: [], y: null }"
         ) + ";"
 
-    def module(self):
-        """The text of a module."""
+    def module(self, components):
+        """The text of a module with these components, but for its imports."""
         data = [self.root_data() for _ in range(self.chance.randint(0, 3))]
-        extra = ["Card"] if self.chance.random() < 0.5 else []
-        self.components += extra
-        return "\n".join(data + [self.component(name) for name in extra + ["App"]])
+        self.components += components
+        return "\n".join(data + [self.component(name) for name in components])
+
+    def import_from(self, other, source):
+        """Imports some names that another maker's module exports."""
+        names = other.scopes[0] + other.ids + other.components
+        taken = self.chance.sample(names, self.chance.randint(0, min(4, len(names))))
+        if self.chance.random() < 0.03:
+            taken.append(self.chance.choice(ODD_NAMES))
+        self.scopes[0] += [name for name in taken if name in other.scopes[0]]
+        self.ids += [name for name in taken if name in other.ids]
+        self.components += [name for name in taken if name in other.components]
+        return f"import {{ {', '.join(taken)} }} from \"./{source}.jsx\";\n" if taken else ""
+
+
+def made(chance):
+    """A made application of one module or two."""
+    root, other = Maker(chance), Maker(chance)
+    files, imports = {}, ""
+    if chance.random() < 0.5:
+        files["other.jsx"] = (HEAD + other.module(["Item", "Row"])).encode()
+        imports = root.import_from(other, "other")
+    extra = ["Card"] if chance.random() < 0.5 else []
+    files["root.jsx"] = (HEAD + imports + root.module(extra + ["App"])).encode()
+    return files
 
 
 def changed(chance, files):
@@ -530,7 +552,7 @@ def one_application(chance):
     if kind < 0.35:
         files = application(chance.choice(CASES)[0])
     elif kind < 0.6:
-        files = {"root.jsx": (HEAD + Maker(chance).module()).encode()}
+        files = made(chance)
         if chance.random() < 0.4:
             return files
     return changed(chance, files)

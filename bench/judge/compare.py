@@ -6,11 +6,12 @@ compare.py PROGRAM N SEED [--rules] [--examples] [--stop K]
 Each application is played with an empty script in a folder of its own. Without `--rules` only the
 faults of `root.jsx` as a text are compared, and an application that the program calls NotBuilt may
 be any whose root has none. With `--rules` every refusal is compared. `--examples` first compares
-the judge with the answers written beside its own examples. It stops after K differences (5 else).
-A difference is made small before it is printed.
+the judge with the answers written beside its own examples, and plays these too. It stops after K
+differences (5 else). A difference is made small before it is printed.
 """
 
 import argparse
+import itertools
 import os
 import shutil
 import subprocess
@@ -21,7 +22,7 @@ sys.dont_write_bytecode = True
 sys.path.insert(0, os.path.dirname(os.path.abspath(__file__)))
 
 from applications import applications, safe_tokens  # noqa: E402
-from examples import ACCEPTED, CASES, application  # noqa: E402
+from examples import ACCEPTED, CASES, LARGE_CASES, application  # noqa: E402
 from rules import Accepted, Refused, judge, parse_bytes  # noqa: E402
 
 LIMIT_SECONDS = 20
@@ -133,11 +134,17 @@ def show(number, files, difference):
     print(flush=True)
 
 
+def all_examples():
+    """The examples with what is written beside them."""
+    written = [(application(files), wanted) for files, wanted in CASES + LARGE_CASES]
+    return written + [(files, "ok") for files in ACCEPTED]
+
+
 def check_examples():
     """Compares the judge with what its own examples say; how many differ."""
     wrong = 0
-    for files, wanted in CASES + [(files, "ok") for files in ACCEPTED]:
-        said = judge(application(files) if (files, wanted) in CASES else files)
+    for files, wanted in all_examples():
+        said = judge(files)
         got = "ok" if isinstance(said, Accepted) else str(said).removeprefix("refused ")
         if got != wanted:
             wrong += 1
@@ -145,13 +152,18 @@ def check_examples():
     return wrong
 
 
+def all_applications(arguments):
+    """The applications to play: the examples where they are asked for, then the made ones."""
+    if arguments.examples:
+        yield from (files for files, _ in all_examples())
+    yield from itertools.islice(applications(arguments.seed), arguments.number)
+
+
 def compare(program, arguments):
     """Compares application after application; how many differ."""
-    found = 0
+    found = number = 0
     kinds_met = {}
-    made = applications(arguments.seed)
-    for number in range(arguments.number):
-        files = next(made)
+    for number, files in enumerate(all_applications(arguments), 1):
         said = verdict(files, arguments.rules)
         kind = said.kind if isinstance(said, Refused) else "accepted"
         kinds_met[kind] = kinds_met.get(kind, 0) + 1
@@ -162,7 +174,7 @@ def compare(program, arguments):
             if found >= arguments.stop:
                 print("stopped")
                 break
-    print(f"{number + 1} applications, {found} differences")
+    print(f"{number} applications, {found} differences")
     print(", ".join(f"{kind} {count}" for kind, count in sorted(kinds_met.items())))
     return found
 

@@ -13,18 +13,20 @@ HEAD = (
 SMALL_APP = " export const App = component$(() => <p/>);"
 
 
+def module(name, text):
+    """The bytes of a module: bytes as they are, a text that begins with no import under one."""
+    if isinstance(text, bytes):
+        return text
+    if text and not text.startswith("import"):
+        text = HEAD + text + (SMALL_APP if name == "root" and "App" not in text else "")
+    return text.encode()
+
+
 def application(files):
     """The files of an application as bytes; a text alone is `root.jsx`."""
-    if isinstance(files, str):
+    if isinstance(files, (str, bytes)):
         files = {"root": files}
-    named = {}
-    for name, text in files.items():
-        if name == "root" and not text.startswith("import") and text:
-            text = HEAD + text + ("" if "App" in text else SMALL_APP)
-        elif not text.startswith("import"):
-            text = HEAD + text
-        named[name + ".jsx"] = text.encode()
-    return named
+    return {name + ".jsx": module(name, text) for name, text in files.items()}
 
 
 def component(body):
@@ -383,13 +385,15 @@ PLACE_CASES = [
     (component("() => <Slot>x</Slot>"), "TagRefused root Slot"),
     (component("() => <Slot> { } </Slot>"), "TagRefused root Slot"),
     (component("() => <Slot>\n</Slot>"), "ok"),
-    (within("$(() => 1);" * 4095), "ok"),
-    (within("$(() => 1);" * 4096), "TooManySites root -"),
 ]
 
 GATHER_CASES = [
     ({}, "RootMissing root -"),
     ({"root": ""}, "ExportMissing root App"),
+    ({"root": b"\xff const"}, "NotUtf8 root -"),
+    ({"root": b"const"}, "Syntax root 1:6"),
+    ({"root": 'import { X } from "./x.jsx";' + SMALL_APP, "x": b"export const X = '\xc3\x28';"}, "NotUtf8 x -"),
+    ({"root": "import { x as y }"}, "Syntax root 1:12"),
     ("const App = component$(() => <p/>);", "ExportMissing root App"),
     ({"root": 'import { X } from "./x.jsx";' + SMALL_APP}, "ImportMissing root ./x.jsx"),
     ({"root": 'import { X } from "x";' + SMALL_APP}, "ImportMissing root x"),
@@ -408,4 +412,35 @@ GATHER_CASES = [
       + within("useTask$;"), "a": "export const A = () => y;"}, "UnknownName root useTask$"),
 ]
 
+
+
+def many_modules(count, last):
+    """An application of `root` and so many more modules, of which the last has these bytes (None: it is missing)."""
+    numbers = range(count)
+    imports = "".join(f'import {{ n{number} }} from "./n{number}.jsx";\n' for number in numbers)
+    files = {f"n{number}": f"export const n{number} = 1;".encode() for number in numbers}
+    files["root"] = imports + HEAD + SMALL_APP
+    if last is None:
+        del files[f"n{count - 1}"]
+    else:
+        files[f"n{count - 1}"] = last
+    return files
+
+
+LONG = b"/*" + b" " * (1 << 20) + b"*/"
+# Large texts, which are not changed by chance.
+LARGE_CASES = [
+    (within("$(() => 1);" * 4095), "ok"),
+    (within("$(() => 1);" * 4096), "TooManySites root -"),
+    ({"root": LONG}, "TooLong root 1:1"),
+    ({"root": LONG + b"\xff"}, "TooLong root 1:1"),
+    ({"root": LONG[5:-2] + b"\n"}, "ExportMissing root App"),
+    ({"root": b"/*\n" + LONG[6:-2] + b"\xc3"}, "NotUtf8 root -"),
+    (many_modules(255, b"export const n254 = 1;"), "ok"),
+    (many_modules(256, b"export const n255 = 1;"), "TooMany root -"),
+    (many_modules(256, None), "ImportMissing root ./n255.jsx"),
+    (many_modules(256, b"\xff"), "NotUtf8 n255 -"),
+    (many_modules(256, b"const"), "Syntax n255 1:6"),
+    (many_modules(257, None), "TooMany root -"),
+]
 CASES = GATHER_CASES + NAME_CASES + PLACE_CASES
