@@ -420,7 +420,7 @@ class Maker:
 
     def jsx(self):
         """An element or a component."""
-        if self.chance.random() < 0.3:
+        if self.components and self.chance.random() < 0.3:
             return self.tag(self.chance.choice(self.components), ["a={%s}", "f$={%a}", 'q:slot="l"', 'key="k"'])
         if self.chance.random() < 0.1:
             return f"<>{self.jsx_children()}</>"

@@ -25,7 +25,7 @@ from applications import applications, safe_tokens  # noqa: E402
 from examples import ACCEPTED, CASES, LARGE_CASES, application  # noqa: E402
 from rules import Accepted, Refused, judge, parse_bytes  # noqa: E402
 
-LIMIT_SECONDS = 20
+LIMIT_SECONDS = 300
 MOST_TRIES = 600
 
 
@@ -164,6 +164,8 @@ def compare(program, arguments):
     found = number = 0
     kinds_met = {}
     for number, files in enumerate(all_applications(arguments), 1):
+        if number % 1000 == 0:
+            print(f"{number} so far, {found} differences", file=sys.stderr, flush=True)
         said = verdict(files, arguments.rules)
         kind = said.kind if isinstance(said, Refused) else "accepted"
         kinds_met[kind] = kinds_met.get(kind, 0) + 1

@@ -1,9 +1,15 @@
+#!/usr/bin/env python3
 """Whether a folder of modules is an application: gathering, rules of names, rules of places.
 
 `judge` takes the files by name and gives the first refusal, or the sites of all modules.
+
+rules.py FOLDER prints the line of the refusal, or a line for each arrow of each module in text
+order: the module, whether it is a dollar site or a plain one, its number, and what it captures.
 """
 
+import os
 import re
+import sys
 from typing import NamedTuple
 
 from grammar import MODULE_BYTES, SOURCE, Fault, parse_text
@@ -133,3 +139,25 @@ def judge(files):
         if len(names[name].dollars) > MOST_SITES:
             return Refused("TooManySites", name, "-")
     return Accepted(modules, {name: names[name].sites() for name, _ in modules})
+
+
+def main(folder):
+    """Judges a folder; ends with 2 where it is refused."""
+    files = {}
+    for name in os.listdir(folder):
+        if name.endswith(".jsx"):
+            with open(os.path.join(folder, name), "rb") as module:
+                files[name] = module.read()
+    said = judge(files)
+    if isinstance(said, Refused):
+        print(said)
+        return 2
+    for module, sites in said.sites.items():
+        for site in sites:
+            kind = "dollar" if site.dollar else "plain"
+            print(" ".join([module, kind, str(site.number)] + site.captures))
+    return 0
+
+
+if __name__ == "__main__":
+    sys.exit(main(sys.argv[1]))
