@@ -164,7 +164,7 @@ def compare(program, arguments):
     found = number = 0
     kinds_met = {}
     for number, files in enumerate(all_applications(arguments), 1):
-        if number % 1000 == 0:
+        if number % 200 == 0:
             print(f"{number} so far, {found} differences", file=sys.stderr, flush=True)
         said = verdict(files, arguments.rules)
         kind = said.kind if isinstance(said, Refused) else "accepted"
