@@ -22,7 +22,7 @@ sys.dont_write_bytecode = True
 sys.path.insert(0, os.path.dirname(os.path.abspath(__file__)))
 
 from applications import applications, safe_tokens  # noqa: E402
-from examples import ACCEPTED, CASES, LARGE_CASES, application  # noqa: E402
+from examples import ACCEPTED, CASES, LARGE_CASES, SITES, application  # noqa: E402
 from rules import Accepted, Refused, judge, parse_bytes  # noqa: E402
 
 LIMIT_SECONDS = 300
@@ -137,7 +137,7 @@ def show(number, files, difference):
 def all_examples():
     """The examples with what is written beside them."""
     written = [(application(files), wanted) for files, wanted in CASES + LARGE_CASES]
-    return written + [(files, "ok") for files in ACCEPTED]
+    return written + [(files, "ok") for files in ACCEPTED] + [(application(files), "ok") for files, _ in SITES]
 
 
 def check_examples():
@@ -149,7 +149,17 @@ def check_examples():
         if got != wanted:
             wrong += 1
             print(f"example: wanted {wanted!r}, got {got!r}\n{str(files)[:300]}")
+    for files, wanted in SITES:
+        got = ", ".join(map(site_words, judge(application(files)).sites["root"]))
+        if got != wanted:
+            wrong += 1
+            print(f"sites: wanted {wanted!r}, got {got!r}\n{str(files)[:300]}")
     return wrong
+
+
+def site_words(site):
+    """A site's kind and captures."""
+    return " ".join(["dollar" if site.dollar else "plain"] + site.captures)
 
 
 def all_applications(arguments):

@@ -413,6 +413,29 @@ GATHER_CASES = [
 ]
 
 
+# The arrows of `root` in text order: a dollar site or a plain one, and what it captures.
+SITES = [
+    (COUNTER, "dollar, dollar n"),
+    (within("const f = useSignal(null); const x = useSignal(10); "
+            "$(() => { const k = x.value; f.value = $((d) => x.value + k + d); }); $(() => f.value(1));"),
+     "dollar, dollar x f, dollar x k, dollar f"),
+    (within("const a = 1; const f = (b) => { const a = b; return () => a + b; };"), "dollar, plain, plain a b"),
+    (within("const a = 1; const f = () => { const b = 2; return () => b + a; };"), "dollar, plain a, plain b a"),
+    (within("const a = 1; const b = 2; const f = () => ({ b, a, c: b });"), "dollar, plain b a"),
+    (within("const a = 1; const f = () => { { const a = 2; a; } return a; };"), "dollar, plain a"),
+    (within("const a = 1; const f = () => { { const a = 2; a; } };"), "dollar, plain"),
+    (within("for (const x of [1]) { $(() => x); }"), "dollar, dollar x"),
+    (within("const s = useSignal(0); useTask$(({ track }) => { track(() => s.value); });"),
+     "dollar, dollar s, plain s"),
+    (within("const a = 1; const b = 2;", "<p onClick$={(e) => b(e, a)} id={(() => a)()}/>"),
+     "dollar, dollar b a, plain a"),
+    ("const g = (x) => h(x); const h = (x) => [1].map((y) => y + x);" + SMALL_APP, "plain, plain, plain x, dollar"),
+    (within("const a = [1];", "<App f$={() => a} g={() => a} h$={true ? () => a : null}/>"),
+     "dollar, dollar a, plain a, plain a"),
+    (within("const a = { b: 1 }; const f = () => { a.b = 2; a.b++; delete a.b; };"), "dollar, plain a"),
+    (within("let n = 0; const f = (n) => () => n;"), "dollar, plain, plain n"),
+]
+
 
 def many_modules(count, last):
     """An application of `root` and so many more modules, of which the last has these bytes (None: it is missing)."""
