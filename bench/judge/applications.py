@@ -558,8 +558,34 @@ def one_application(chance):
     return changed(chance, files)
 
 
-def applications(seed):
-    """Applications without an end."""
+# Where a few pieces can stand.
+FRAMES = [
+    "const a = %s;", "const a = %s", "%s", "const a = () => { %s };", "const a = () => { while (b) { %s } };",
+    "const a = <p %s/>;", "const a = <p>%s</p>;", "const a = <>%s</>;", "const a = `t${%s}`;", "const a = b(%s);",
+    "const a = { %s };", "const a = (%s) => b;", "const a = () => { if (b) %s };", 'import { %s } from "x";',
+    "const a = () => { const %s; };", "const a = <p b={%s}/>;", "const a = Math.trunc(%s);", "const a = b ? %s : c;",
+    "const a = () => { return %s; };", "const a = () => { delete %s; };", "const a = [%s];", "const a = b.%s;",
+    "const a = () => { b %s };", "const a = () => { for (%s) b; };", "const a = console.log(%s);", "const a = '%s';",
+]
+
+
+def small_text(chance):
+    """A small text: some pieces in a frame, a nested item, or a made expression."""
+    kind = chance.random()
+    if kind < 0.2:
+        return nested_alone(chance)
+    if kind < 0.5:
+        maker = Maker(chance)
+        maker.scopes[0] += ["a", "b"]
+        files = {"root.jsx": f"const a = {maker.expression()};".encode()}
+        return changed(chance, files)
+    pieces = [chance.choice(PIECES + PUNCTS + LOCALS) for _ in range(chance.choice([1, 1, 2, 2, 3, 4, 6]))]
+    text = chance.choice(FRAMES).replace("%s", chance.choice(["", " "]).join(pieces))
+    return {"root.jsx": text.encode("utf-8", "replace")}
+
+
+def applications(seed, small=0.0):
+    """Applications without an end, a part of them small texts that are hardly one."""
     chance = random.Random(seed)
     while True:
-        yield one_application(chance)
+        yield small_text(chance) if chance.random() < small else one_application(chance)

@@ -166,7 +166,8 @@ def all_applications(arguments):
     """The applications to play: the examples where they are asked for, then the made ones."""
     if arguments.examples:
         yield from (files for files, _ in all_examples())
-    yield from itertools.islice(applications(arguments.seed), arguments.number)
+    small = 0.0 if arguments.rules else 0.8
+    yield from itertools.islice(applications(arguments.seed, small), arguments.number)
 
 
 def compare(program, arguments):

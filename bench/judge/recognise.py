@@ -243,7 +243,7 @@ def check(productions, text):
 def main(number, seed):
     """Compares so many texts."""
     productions = Productions(GRAMMAR)
-    made = applications(seed)
+    made = applications(seed, small=0.7)
     counts = {True: 0, False: 0, None: 0}
     while sum(counts.values()) < number:
         for data in next(made).values():
