@@ -243,8 +243,6 @@ class Places:
         """A capital tag other than `Slot`."""
         if self.is_listed(at, self.contexts):
             self.refuse(at, "HookPlace", tag)
-        elif self.declaration(at).at in self.tracks:
-            self.refuse(at, "HookPlace", tag)
         if not self.is_listed(at, self.components):
             self.refuse(at, "NotComponent", tag)
 
