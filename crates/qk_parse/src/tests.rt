@@ -1,7 +1,8 @@
 //! What texts are answered: a module, or where and why there is none.
 
 use crate::{ParseFault, parse_module};
-use qk_ast::Form;
+use qk_ast::{Expr, Form, Module, free};
+use qk_shared::{List, Text};
 use std::alloc::{AllocError, Global};
 use std::process::Abort;
 use std::test::Fail;
@@ -12,6 +13,72 @@ fn answer(alloc: Global, text: &str, form: Form) -> Result<(), ParseFault> {
         Ok(_) => Ok(()),
         Err(fault) => Err(fault),
     }
+}
+
+/// The free names of the arrow that the module's one item is.
+fn free_of(alloc: Global, module: &Module) -> Option<List<Text>> {
+    let item = module.items.as_slice().first()?;
+    match &item.init {
+        Expr::Arrow(arrow) => free(alloc, arrow).ok(),
+        _ => None,
+    }
+}
+
+fn are(names: &List<Text>, expected: &[&str]) -> bool {
+    if names.len() != expected.len() {
+        return false;
+    }
+    for (name, other) in names.as_slice().iter().zip(expected) {
+        if name.as_str() != *other {
+            return false;
+        }
+    }
+    true
+}
+
+/// Whether these are the free names of `const f = ARROW;`.
+fn has_free(alloc: Global, text: &str, form: Form, expected: &[&str]) -> bool {
+    let Ok(module) = parse_module(alloc, text, form) else {
+        return false;
+    };
+    match free_of(alloc, &module) {
+        Some(names) => are(&names, expected),
+        None => false,
+    }
+}
+
+#[test]
+fn free_names(rt: HostRuntime) -> Result<(), Fail> {
+    let alloc = rt.alloc();
+    let source = |text: &str, expected: &[&str]| has_free(alloc, text, Form::Source, expected);
+    assert!(rt; source("const f = (a) => [b, a + b, c];", &["b", "c"]));
+    assert!(rt; source("const f = (a) => [(b) => a + b, b];", &["b"]));
+    // A block's name is its own in the whole of it.
+    assert!(rt; source("const f = (a) => { c + b; const c = a; };", &["b"]));
+    assert!(rt; source("const f = (a) => { { const b = a; } b; };", &["b"]));
+    assert!(rt;
+        source(
+            "const f = (a) => { for (const x of x) { x + y; } x; };",
+            &["x", "y"]
+        )
+    );
+    assert!(rt;
+        source(
+            "const f = ({ a, b }) => <Card size={b}>{c}</Card>;",
+            &["Card", "c"]
+        )
+    );
+    assert!(rt; source("const f = () => ({ a, b: c, d: { e: a } });", &["a", "c"]));
+    // The names of the scope of a built file stand around the arrow's own.
+    assert!(rt;
+        has_free(
+            alloc,
+            "const f = (a) => { const [b] = useLexicalScope(); b; };",
+            Form::Built,
+            &["b"]
+        )
+    );
+    Ok(())
 }
 
 /// `const a = `, that many times the front, the middle, as many times the back, and `;`.
