@@ -18,9 +18,6 @@ use Rattle.qk_print.proofs.Fitting.{same_region, in_braces, both}
 pub record At (around : Around) (before : Option Token) (R : Written) : Type 0 where
   pub stand : stands around before R []
 
-abbrev pub follows : Written → Characters
-follows R = written R []
-
 -- no word goes on with it
 abbrev pub Soft : Written → Type 0
 Soft R = IsTrue (ends_word (written R []))
