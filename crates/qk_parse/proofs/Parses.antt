@@ -25,7 +25,7 @@ use Rattle.qk_token.specs.Lexed.{Listed, Lexes, place_of}
 use Rattle.qk_token.proofs.Counts.{fewer_tokens, fewer_characters}
 use Rattle.qk_parse.specs.declared.parse.ParseFault.{ParseFault}
 use Rattle.qk_parse.specs.declared.parse.ParseFault.TheVariants as parse
-use Rattle.qk_parse.specs.Parsing.{LeftAt, Refused, NoneDerived, of_lex, placed}
+use Rattle.qk_parse.specs.Parsing.{FoundAt, Refused, NoneDerived, of_lex, placed}
 
 scalars : (text : List ℕ) → IsUtf8 text → IsTrue (all_scalars (chars text))
 scalars text u = scalars-chars text u
@@ -56,12 +56,12 @@ pub read_refused : FaultsExactly → SyntaxOnlyWhereNone → TooDeepOnlyWhereRai
 read_refused exact nowhere deep inside form text found read.Memory short lexes h = tt
 read_refused exact nowhere deep inside form text found (read.Syntax left) short lexes h =
     let e = h (syntax_is left) in
-    let there : LeftAt text (place_of left found) = record { found = found; lexes = lexes; left = left; within = (inside form (deepest form) left found.tokens).0 e; place = refl } in
+    let there : FoundAt form input.Syntax text (place_of left found) = record { found = found; lexes = lexes; left = left; within = (inside form (deepest form) left found.tokens).0 e; answers = e; place = refl } in
     (short, record { there = there; none = λ m p. nowhere form (deepest form) left found.tokens m e p })
 read_refused exact nowhere deep inside form text found (read.TooDeep left) short lexes h =
     let e = h (deep_is left) in
     let raised = deep form (deepest form) left found.tokens e in
-    let there : LeftAt text (place_of left found) = record { found = found; lexes = lexes; left = left; within = ((inside form (deepest form) left found.tokens).1 e).1; place = refl } in
+    let there : FoundAt form input.TooDeep text (place_of left found) = record { found = found; lexes = lexes; left = left; within = ((inside form (deepest form) left found.tokens).1 e).1; answers = e; place = refl } in
     (short, record { there = there; none = λ m p. (exact form (deepest form) found.tokens).0 (input.TooDeep left) e m p; raised = raised })
 
 -- a fault stands at one of the tokens, or behind them

@@ -1,10 +1,12 @@
 -- What parsing a text answers in a form: the module that it derives, or why it derives none.
-use Rattle.std.specs.Prelude.{◌≡◌, ◌≤◌, ◌<◌, ℕ, List, length, chars}
+use Rattle.std.specs.Prelude.{◌≡◌, ◌≤◌, ◌<◌, ℕ, List, length, chars, Err}
 use Rattle.qk_ast.specs.declared.Form.{Form}
 use Rattle.qk_ast.specs.declared.Module.{Module}
 use Rattle.qk_ast.specs.Tokens.{Token, Tokens}
 use Rattle.qk_ast.specs.Faults.{LexicalAt}
 use Rattle.qk_ast.specs.Derives.{Derives, Parses, longest, deepest}
+use Rattle.qk_reading.specs.Input as input
+use Rattle.qk_reading.specs.Reader.{read_module}
 use Rattle.qk_reading.specs.Laws.{ParsesWithin, RaisedPast}
 use Rattle.qk_token.specs.Lexed.{Listed, Lexes, place_of}
 use Rattle.qk_lex.specs.declared.LexFault.{LexFault}
@@ -14,23 +16,25 @@ use Rattle.qk_token.specs.declared.fault.Fault.TheVariants as read
 use Rattle.qk_parse.specs.declared.parse.ParseFault.{ParseFault}
 use Rattle.qk_parse.specs.declared.parse.ParseFault.TheVariants.{TooLong, Lexical, Syntax, TooDeep, Memory}
 
--- The text has tokens, and so many of them are left from that byte on; where none is left, the text ends there.
-pub record LeftAt (text : List ℕ) (at : ℕ) : Type 0 where
+-- The text has tokens, and the reader answers such a fault to them at the one from which so many are left: it begins at that byte. Where none is
+-- left, the text ends there.
+pub record FoundAt (form : Form) (fault : ℕ → input.Fault) (text : List ℕ) (at : ℕ) : Type 0 where
   pub found : Listed
   pub lexes : Lexes (chars text) found
   pub left : ℕ
   pub within : left ≤ length found.tokens
+  pub answers : read_module form (deepest form) found.tokens ≡ Err (fault left)
   pub place : at ≡ place_of left found
 
 -- a token is out of place there: the tokens derive no module of any nesting
 pub record SyntaxAt (form : Form) (text : List ℕ) (at : ℕ) : Type 0 where
-  pub there : LeftAt text at
+  pub there : FoundAt form input.Syntax text at
   pub none : (m : Module) → ¬ Parses form there.found.tokens m
 
 -- A token is too deep there: the tokens derive no module that nests no deeper than the form may, and of the tokens up to
 -- and with that one more than this can raise the nesting.
 pub record TooDeepAt (form : Form) (text : List ℕ) (at : ℕ) : Type 0 where
-  pub there : LeftAt text at
+  pub there : FoundAt form input.TooDeep text at
   pub none : (m : Module) → ¬ ParsesWithin form (deepest form) there.found.tokens m
   pub raised : RaisedPast (deepest form) there.left there.found.tokens
 
