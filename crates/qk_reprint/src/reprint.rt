@@ -67,13 +67,13 @@ fn source_module(alloc: Global, source: &[u8]) -> Result<Module, Stop>
 }
 
 /// Puts the text of a module.
-fn put_module<K: Sink>(alloc: Global, module: &Module, out: &mut K) -> Result<(), Stop>
-    ensures put { OnOk result (K.bytes out.new ≡ option_map (with_piece (print_text module.now)) (K.bytes out.old)) }
+fn put_module<K: Sink>(alloc: Global, m: &Module, out: &mut K) -> Result<(), Stop>
+    ensures put { OnOk result (K.bytes out.new ≡ option_map (with_piece (print_text m.now)) (K.bytes out.old)) }
     ensures sink_failed { IsErrOf result Stop.SinkFailed → Rose (K.faults out.old) (K.faults out.new) }
     ensures others { (¬ IsErrOf result Stop.Refused) × (¬ IsErrOf result Stop.StoreFailed) }
 {
     let mut text = Vec::new(alloc);
-    let Ok(()) = print_module(module, &mut text) else {
+    let Ok(()) = print_module(m, &mut text) else {
         return Err(Stop::Memory);
     };
     match out.put(text.as_slice()) {
