@@ -3,7 +3,6 @@
 ghost use Rattle.std.specs.Prelude.{◌≡◌, map, codes};
 ghost use Rattle.qk_ast.specs.Characters as chars;
 ghost use Rattle.qk_ast.specs.First as form;
-ghost use Rattle.qk_ast.specs.First as first_form;
 ghost use Rattle.qk_first.specs.Shape as spec;
 
 use qk_shared::Text;
@@ -163,7 +162,7 @@ fn are_qwik_names(names: &[Text]) -> bool
 
 /// Whether no name stands twice. Of names that are each one of a few it tries only a few: the first that stands again ends it.
 fn are_distinct(mut names: &[Text]) -> bool
-    ensures { result ≡ first_form.is_distinct names.entry.now }
+    ensures { result ≡ form.is_distinct names.entry.now }
 {
     while let [first, rest @ ..] = names {
         if has(rest, first.as_str().as_bytes()) {
