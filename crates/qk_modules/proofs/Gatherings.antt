@@ -1,0 +1,118 @@
+-- A gathering on its way: the modules that were read, their list, and the answers of the store so far.
+use Rattle.std.specs.Prelude.{◌≡◌, refl, ℕ, ◌+◌, ◌<◌, ◌≤◌, Bool, true, false, IsTrue, List, [], ◌∷◌, ◌++◌, map, length, take, All, Option, Some, None, slice_get, Result, Ok, Err}
+use Rattle.std.specs.Option.{option_map}
+use Rattle.std.proofs.Common.{ap, sym, subst, ◌∙◌, arith, add-one, zero, suc}
+use Rattle.std.proofs.lemmas.List.{append-nil, append_assoc, length-map, length_push}
+use Rattle.std.proofs.lemmas.List.Elements.{All-append, All-nil}
+use Rattle.std.proofs.lemmas.List.{take-append-le}
+use Rattle.std.proofs.Math.Seq.{take-suc}
+use Rattle.std.proofs.lemmas.Option.{slice_get_within, get_or_from_slice_get}
+use Rattle.qk_ast.specs.declared.Form.TheVariants.{Source}
+use Rattle.qk_ast.specs.Derives.{Derives}
+use Rattle.qk_ast.specs.Texts.{Text}
+use Rattle.qk_ast.specs.Names.{each_once}
+use Rattle.qk_ast.specs.Framework.{is_module_name}
+use Rattle.qk_ast.specs.Sources.{source_module, is_module_source}
+use Rattle.qk_store.specs.Files.{Files}
+use Rattle.qk_store.specs.Answers.{bytes, Answer}
+use Rattle.qk_modules.specs.declared.modules.NamedModule.{NamedModule}
+use Rattle.qk_modules.specs.declared.modules.Modules.{Modules}
+use Rattle.qk_modules.specs.declared.fault.GatherFault.{GatherFault}
+use Rattle.qk_modules.specs.declared.fault.GatherFault.TheVariants.{Memory, ExportMissing}
+use Rattle.qk_modules.specs.Gathering.{root, source_of, sources_in, all_sources, listed, Read_module, named, IsFront, IsWhole, IsNext, read_as, read_of, IsTold, RefusedTurn, Ends, all, unexported, refused, want, behind, Gathers, first_missing}
+use Rattle.qk_modules.specs.Listing.{with_imports, with_sources}
+use Rattle.qk_modules.specs.Turns.{Turns, TurnComes, TextComes}
+use Rattle.qk_modules.specs.Exporting as set
+use Rattle.qk_modules.proofs.Sourcing.{source_is, source_names}
+use Rattle.qk_modules.proofs.Listed.{grows, each_once_both, by_import}
+
+pub record Gathering (files : Option Files) (before after : Option (List Answer)) (modules : List NamedModule) (listing : List Text) : Type 0 where
+  pub read : List Read_module
+  pub front : IsFront read
+  pub modules : map named read ≡ modules
+  pub listing : listing ≡ listed (map named read)
+  pub answered : after ≡ option_map (behind (map read_of read)) before
+  pub told : (told : Files) → files ≡ Some told → All (IsTold told) (map read_of read)
+
+-- ---- the list, with a module more
+
+all_more : (modules : List NamedModule) (m : NamedModule) → all_sources (modules ++ m ∷ []) ≡ all_sources modules ++ sources_in m.module.imports
+all_more [] m = append-nil (sources_in m.module.imports)
+all_more (n ∷ modules) m = ap (λ l. sources_in n.module.imports ++ l) (all_more modules m) ∙ sym (append_assoc (sources_in n.module.imports) (all_sources modules) (sources_in m.module.imports))
+
+listed_grows : (modules : List NamedModule) (m : NamedModule) → with_imports (listed modules) m.module.imports ≡ listed (modules ++ m ∷ [])
+listed_grows modules m =
+    by_import (listed modules) m.module.imports
+    ∙ each_once_both (source_of root ∷ all_sources modules) (sources_in m.module.imports)
+    ∙ ap (λ l. each_once [] (source_of root ∷ l)) (sym (all_more modules m))
+
+map_more : {A B : Type 0} (f : A → B) (l : List A) (x : A) → map f (l ++ x ∷ []) ≡ map f l ++ f x ∷ []
+map_more f [] x = refl
+map_more f (y ∷ l) x = ap (λ r. f y ∷ r) (map_more f l x)
+
+-- a front of a list that goes on, with the next of it
+take_next : (n : ℕ) (l more : List Text) (x : Text) → slice_get l n ≡ Some x → take (n + 1) (l ++ more) ≡ take n l ++ x ∷ []
+take_next n l more x h =
+    let within : n < length l = slice_get_within l n x h in
+    take-append-le (n + 1) l more (omega (arith, within))
+    ∙ rw (add-one, take-suc l n x within, get_or_from_slice_get l n x x h) refl
+
+-- ---- the beginning
+
+at_begin : (files : Option Files) (answers : Option (List Answer)) → answers ≡ option_map (behind []) answers
+at_begin files None = refl
+at_begin files (Some past) = ap Some (sym (append-nil past))
+
+pub none_read : (files : Option Files) (answers : Option (List Answer)) → Gathering files answers answers [] (source_of root ∷ [])
+none_read files answers = record {
+  read = [];
+  front = record { first = refl; names = All-nil _; derived = All-nil _; few = omega arith };
+  modules = refl;
+  listing = refl;
+  answered = at_begin files answers;
+  told = λ told e. All-nil _;
+}
+
+-- ---- a turn
+
+behind_both : (one two : List Answer) (o : Option (List Answer)) → option_map (behind two) (option_map (behind one) o) ≡ option_map (behind (one ++ two)) o
+behind_both one two None = refl
+behind_both one two (Some past) = ap Some (append_assoc past one two)
+
+All-one : {A : Type 0} (P : A → Type 0) (x : A) → P x → All P (x ∷ [])
+All-one P x h zero d within = h
+All-one P x h (suc k) d within = absurd (omega (arith, within))
+
+module _ (files : Option Files) (before between after : Option (List Answer)) (modules : List NamedModule) (listing : List Text) (source : Text)
+    (so_far : Gathering files before between modules listing) (next : slice_get listing (length modules) ≡ Some source) where
+  as_many : length modules ≡ length so_far.read
+  as_many = ap length (sym so_far.modules) ∙ length-map so_far.read named
+
+  is_next : IsNext so_far.read source
+  is_next = ap (λ l. slice_get l (length so_far.read)) (sym so_far.listing) ∙ ap (λ n. slice_get listing n) (sym as_many) ∙ next
+
+  pub turn_refused : (fault : GatherFault) → Turns files between after modules source (Err fault) → Gathers files before after (Err fault)
+  turn_refused fault turn = record {
+    read = so_far.read;
+    last = turn.last;
+    front = so_far.front;
+    answered = turn.answered ∙ ap (option_map (behind turn.last)) so_far.answered ∙ behind_both (map read_of so_far.read) turn.last before;
+    told = λ told e. All-append (IsTold told) (map read_of so_far.read) turn.last (so_far.told told e) (turn.told told e);
+    ends = refused is_next (subst (λ l. RefusedTurn l source turn.last fault) (sym so_far.modules) turn.comes);
+  }
+
+  module _ (m : NamedModule) (turn : Turns files between after modules source (Ok m)) where
+    text_read : Text
+    text_read = turn.comes.0
+
+    last_read : Read_module
+    last_read = record { name = m.name; text = text_read; tree = m.module }
+
+    read_more : List Read_module
+    read_more = so_far.read ++ last_read ∷ []
+
+    named_more : map named read_more ≡ modules ++ m ∷ []
+    named_more = map_more named so_far.read last_read ∙ ap (λ l. l ++ m ∷ []) so_far.modules
+
+    pub turn_taken : Gathering files before after (modules ++ m ∷ []) (with_imports listing m.module.imports)
+    turn_taken = ?

@@ -1,0 +1,5 @@
+pub mod Bits
+pub mod Sourcing
+pub mod Exporting_more
+pub mod Listed
+pub mod Gatherings
