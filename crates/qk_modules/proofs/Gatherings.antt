@@ -59,9 +59,9 @@ take_next n l more x h =
 
 -- ---- the beginning
 
-at_begin : (files : Option Files) (answers : Option (List Answer)) → answers ≡ option_map (behind []) answers
-at_begin files None = refl
-at_begin files (Some past) = ap Some (sym (append-nil past))
+at_begin : (answers : Option (List Answer)) → answers ≡ option_map (behind []) answers
+at_begin None = refl
+at_begin (Some past) = ap Some (sym (append-nil past))
 
 pub none_read : (files : Option Files) (answers : Option (List Answer)) → Gathering files answers answers [] (source_of root ∷ [])
 none_read files answers = record {
@@ -69,7 +69,7 @@ none_read files answers = record {
   front = record { first = refl; names = All-nil _; derived = All-nil _; few = omega arith };
   modules = refl;
   listing = refl;
-  answered = at_begin files answers;
+  answered = at_begin answers;
   told = λ told e. All-nil _;
 }
 
@@ -114,5 +114,32 @@ module _ (files : Option Files) (before between after : Option (List Answer)) (m
     named_more : map named read_more ≡ modules ++ m ∷ []
     named_more = map_more named so_far.read last_read ∙ ap (λ l. l ++ m ∷ []) so_far.modules
 
+    name_is : m.name ≡ source_module source
+    name_is = turn.comes.3
+
+    named_good : is_module_source source ≡ true
+    named_good = turn.comes.2
+
+    answers_more : map read_of read_more ≡ map read_of so_far.read ++ turn.last
+    answers_more = map_more read_of so_far.read last_read ∙ ap (λ l. map read_of so_far.read ++ l) (ap (λ (n : Text). read_as n (bytes text_read) ∷ []) name_is ∙ sym turn.comes.1)
+
+    source_now : source_of m.name ≡ source
+    source_now = ap source_of name_is ∙ sym (source_is source named_good)
+
+    front_more : IsFront read_more
+    front_more = record {
+      first = ?;
+      names = All-append (λ r. IsTrue (is_module_name r.name)) so_far.read (last_read ∷ []) so_far.front.names (All-one (λ (r : Read_module). IsTrue (is_module_name r.name)) last_read (ap is_module_name name_is ∙ source_names source named_good));
+      derived = All-append (λ r. Derives Source r.text r.tree) so_far.read (last_read ∷ []) so_far.front.derived (All-one (λ (r : Read_module). Derives Source r.text r.tree) last_read turn.comes.4);
+      few = few_more;
+    }
+
     pub turn_taken : Gathering files before after (modules ++ m ∷ []) (with_imports listing m.module.imports)
-    turn_taken = ?
+    turn_taken = record {
+      read = read_more;
+      front = front_more;
+      modules = named_more;
+      listing = ap (λ l. with_imports l m.module.imports) (so_far.listing ∙ ap listed so_far.modules) ∙ listed_grows modules m ∙ ap listed (sym named_more);
+      answered = turn.answered ∙ ap (option_map (behind turn.last)) so_far.answered ∙ behind_both (map read_of so_far.read) turn.last before ∙ ap (λ l. option_map (behind l) before) (sym answers_more);
+      told = λ told e. subst (All (IsTold told)) (sym answers_more) (All-append (IsTold told) (map read_of so_far.read) turn.last (so_far.told told e) (turn.told told e));
+    }

@@ -154,6 +154,7 @@ pub data RefusedTurn (modules : List NamedModule) (source : Text) : List Answer 
   text : {t : Text} {fault : GatherFault} → IsTrue (is_module_source source) → RefusedText (length modules) (source_module source) t fault → RefusedTurn modules source (read_as (source_module source) (bytes t) ∷ []) fault
   failed : RefusedTurn modules source [] Store
   want : RefusedTurn modules source [] Memory
+  want_behind : (found : Content) → IsTrue (is_module_source source) → RefusedTurn modules source (read_as (source_module source) found ∷ []) Memory
 
 -- ---- the answer
 

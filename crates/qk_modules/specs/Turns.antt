@@ -9,6 +9,9 @@ use Rattle.qk_store.specs.Files.{Files}
 use Rattle.qk_store.specs.Answers.{bytes, Answer}
 use Rattle.qk_modules.specs.declared.modules.NamedModule.{NamedModule}
 use Rattle.qk_modules.specs.declared.fault.GatherFault.{GatherFault}
+use Rattle.qk_modules.specs.declared.fault.GatherFault.TheVariants.{Memory, Parse}
+use Rattle.qk_parse.specs.declared.parse.ParseFault.{ParseFault}
+use Rattle.qk_parse.specs.declared.parse.ParseFault.TheVariants as parse
 use Rattle.qk_modules.specs.Gathering.{read_as, IsTold, RefusedText, RefusedTurn, behind}
 
 -- what comes of the text of a module before which so many stand
@@ -27,3 +30,7 @@ pub record Turns (files : Option Files) (before after : Option (List Answer)) (m
   pub answered : after ≡ option_map (behind last) before
   pub told : (told : Files) → files ≡ Some told → All (IsTold told) last
   pub comes : TurnComes modules source last result
+
+abbrev pub fault_of : (name : Text) → ParseFault → GatherFault
+fault_of name parse.Memory = Memory
+fault_of name fault = Parse name fault

@@ -7,7 +7,7 @@ ghost use Rattle.qk_ast.specs.Texts.{same_text};
 ghost use Rattle.qk_store.specs.Answers.{content, reading};
 ghost use Rattle.qk_modules.specs.Gathering as gathering;
 ghost use Rattle.qk_modules.specs.Gathering.{read_as, file_of, behind};
-ghost use Rattle.qk_modules.specs.Turns.{TextComes, Turns};
+ghost use Rattle.qk_modules.specs.Turns.{TextComes, Turns, fault_of};
 ghost use Rattle.qk_modules.specs.Causes.{FailsByStore};
 
 use crate::names::{file_name, named_by};
@@ -35,13 +35,11 @@ pub(crate) fn take_turn<S: Store>(
         return Err(absence(modules, source));
     };
     let name = Text::from_str(alloc, name)?;
-    match read_file(alloc, store, &name)? {
-        Found::Gone => Err(absence(modules, source)),
-        Found::TooLong => Err(GatherFault::Parse {
-            module: name,
-            fault: ParseFault::TooLong,
-        }),
-        Found::Bytes(bytes) => parsed(alloc, modules.len(), name, bytes.as_slice()),
+    match read_file(alloc, store, &name) {
+        Ok(Found::Gone) => Err(absence(modules, source)),
+        Ok(Found::TooLong) => Err(unparsed(name, ParseFault::TooLong)),
+        Ok(Found::Bytes(bytes)) => parsed(alloc, modules.len(), name, bytes.as_slice()),
+        Err(fault) => Err(fault),
     }
 }
 
@@ -73,11 +71,18 @@ fn first_importer<'a>(modules: &'a [NamedModule], source: &Text) -> Option<&'a N
     ensures { option_copied result ≡ find (gathering.imports_from source.now) modules.now }
 {
     for module in modules {
-        if names_source(module.module.imports.as_slice(), source) {
+        if imports_from(module, source) {
             return Some(module);
         }
     }
     None
+}
+
+/// Whether the module imports from this source.
+fn imports_from(module: &NamedModule, source: &Text) -> bool
+    ensures { result ≡ gathering.imports_from source.now «module».now }
+{
+    names_source(module.module.imports.as_slice(), source)
 }
 
 /// Whether one of the imports is from this source.
@@ -124,10 +129,19 @@ fn parsed(
     match parse_module(alloc, text, Form::Source) {
         Ok(_) if before >= limits::MODULES => Err(GatherFault::TooMany),
         Ok(module) => Ok(NamedModule { name, module }),
-        Err(ParseFault::Memory) => Err(GatherFault::Memory),
-        Err(fault) => Err(GatherFault::Parse {
+        Err(fault) => Err(unparsed(name, fault)),
+    }
+}
+
+/// Why the module isn't parsed.
+fn unparsed(name: Text, fault: ParseFault) -> GatherFault
+    ensures { result ≡ fault_of name fault }
+{
+    match fault {
+        ParseFault::Memory => GatherFault::Memory,
+        fault => GatherFault::Parse {
             module: name,
             fault,
-        }),
+        },
     }
 }
