@@ -1,12 +1,12 @@
 -- A gathering on its way: the modules that were read, their list, and the answers of the store so far.
 use Rattle.std.specs.Prelude.{◌≡◌, refl, ℕ, ◌+◌, ◌<◌, ◌≤◌, Bool, true, false, IsTrue, List, [], ◌∷◌, ◌++◌, map, length, take, All, Option, Some, None, slice_get, Result, Ok, Err}
 use Rattle.std.specs.Option.{option_map}
-use Rattle.std.proofs.Common.{ap, sym, subst, ◌∙◌, arith, add-one, zero, suc}
+use Rattle.std.proofs.Common.{ap, sym, subst, ◌∙◌, arith, add-one, zero, suc, get_or, nat_lt, ◌⊎◌, inl, inr}
 use Rattle.std.proofs.lemmas.List.{append-nil, append_assoc, length-map, length_push}
 use Rattle.std.proofs.lemmas.List.Elements.{All-append, All-nil}
-use Rattle.std.proofs.lemmas.List.{take-append-le}
+use Rattle.std.proofs.lemmas.List.{take-append-le, take_all}
 use Rattle.std.proofs.Math.Seq.{take-suc}
-use Rattle.std.proofs.lemmas.Option.{slice_get_within, get_or_from_slice_get}
+use Rattle.std.proofs.lemmas.Option.{slice_get_within, get_or_from_slice_get, slice_get-get_or}
 use Rattle.qk_ast.specs.declared.Form.TheVariants.{Source}
 use Rattle.qk_ast.specs.Derives.{Derives}
 use Rattle.qk_ast.specs.Texts.{Text}
@@ -29,8 +29,8 @@ use Rattle.qk_modules.proofs.Listed.{grows, each_once_both, by_import}
 pub record Gathering (files : Option Files) (before after : Option (List Answer)) (modules : List NamedModule) (listing : List Text) : Type 0 where
   pub read : List Read_module
   pub front : IsFront read
-  pub modules : map named read ≡ modules
-  pub listing : listing ≡ listed (map named read)
+  pub are : map named read ≡ modules
+  pub lists : listing ≡ listed (map named read)
   pub answered : after ≡ option_map (behind (map read_of read)) before
   pub told : (told : Files) → files ≡ Some told → All (IsTold told) (map read_of read)
 
@@ -67,8 +67,8 @@ pub none_read : (files : Option Files) (answers : Option (List Answer)) → Gath
 none_read files answers = record {
   read = [];
   front = record { first = refl; names = All-nil _; derived = All-nil _; few = omega arith };
-  modules = refl;
-  listing = refl;
+  are = refl;
+  lists = refl;
   answered = at_begin answers;
   told = λ told e. All-nil _;
 }
@@ -86,36 +86,39 @@ All-one P x h (suc k) d within = absurd (omega (arith, within))
 module _ (files : Option Files) (before between after : Option (List Answer)) (modules : List NamedModule) (listing : List Text) (source : Text)
     (so_far : Gathering files before between modules listing) (next : slice_get listing (length modules) ≡ Some source) where
   as_many : length modules ≡ length so_far.read
-  as_many = ap length (sym so_far.modules) ∙ length-map so_far.read named
+  as_many = ap length (sym so_far.are) ∙ length-map so_far.read named
 
   is_next : IsNext so_far.read source
-  is_next = ap (λ l. slice_get l (length so_far.read)) (sym so_far.listing) ∙ ap (λ n. slice_get listing n) (sym as_many) ∙ next
+  is_next = ap (λ l. slice_get l (length so_far.read)) (sym so_far.lists) ∙ ap (λ n. slice_get listing n) (sym as_many) ∙ next
 
-  pub turn_refused : (fault : GatherFault) → Turns files between after modules source (Err fault) → Gathers files before after (Err fault)
-  turn_refused fault turn = record {
+  refused_now : (fault : GatherFault) → Turns files between after modules source (Err fault) → Gathers files before after (Err fault)
+  refused_now fault turn = record {
     read = so_far.read;
     last = turn.last;
     front = so_far.front;
     answered = turn.answered ∙ ap (option_map (behind turn.last)) so_far.answered ∙ behind_both (map read_of so_far.read) turn.last before;
     told = λ told e. All-append (IsTold told) (map read_of so_far.read) turn.last (so_far.told told e) (turn.told told e);
-    ends = refused is_next (subst (λ l. RefusedTurn l source turn.last fault) (sym so_far.modules) turn.comes);
+    ends = refused is_next (subst (λ l. RefusedTurn l source turn.last fault) (sym so_far.are) turn.comes);
   }
 
+  pub turn_refused : (fault : GatherFault) (result : Result Modules GatherFault) → result ≡ Err fault → Turns files between after modules source (Err fault) → Gathers files before after result
+  turn_refused fault result e turn = subst (Gathers files before after) (sym e) (refused_now fault turn)
+
   module _ (m : NamedModule) (turn : Turns files between after modules source (Ok m)) where
-    text_read : Text
+    abbrev text_read : Text
     text_read = turn.comes.0
 
-    last_read : Read_module
+    abbrev last_read : Read_module
     last_read = record { name = m.name; text = text_read; tree = m.module }
 
-    read_more : List Read_module
+    abbrev read_more : List Read_module
     read_more = so_far.read ++ last_read ∷ []
 
     named_more : map named read_more ≡ modules ++ m ∷ []
-    named_more = map_more named so_far.read last_read ∙ ap (λ l. l ++ m ∷ []) so_far.modules
+    named_more = map_more named so_far.read last_read ∙ ap (λ l. l ++ m ∷ []) so_far.are
 
     name_is : m.name ≡ source_module source
-    name_is = turn.comes.3
+    name_is = turn.comes.3.0
 
     named_good : is_module_source source ≡ true
     named_good = turn.comes.2
@@ -126,11 +129,33 @@ module _ (files : Option Files) (before between after : Option (List Answer)) (m
     source_now : source_of m.name ≡ source
     source_now = ap source_of name_is ∙ sym (source_is source named_good)
 
+    abbrev newer : List Text
+    newer = each_once (listed (map named so_far.read)) (sources_in m.module.imports)
+
+    list_more : listed (map named read_more) ≡ listed (map named so_far.read) ++ newer
+    list_more =
+        ap listed (map_more named so_far.read last_read)
+        ∙ sym (listed_grows (map named so_far.read) m)
+        ∙ by_import (listed (map named so_far.read)) m.module.imports
+        ∙ grows (listed (map named so_far.read)) (listed (map named so_far.read)) (sources_in m.module.imports) (λ t. refl)
+
+    first_more : map (λ r. source_of r.name) read_more ≡ take (length read_more) (listed (map named read_more))
+    first_more =
+        map_more (λ r. source_of r.name) so_far.read last_read
+        ∙ ap (λ l. l ++ source_of m.name ∷ []) so_far.front.first
+        ∙ ap (λ (s : Text). take (length so_far.read) (listed (map named so_far.read)) ++ s ∷ []) source_now
+        ∙ sym (take_next (length so_far.read) (listed (map named so_far.read)) newer source is_next)
+        ∙ ap (λ n. take n (listed (map named so_far.read) ++ newer)) (sym (length_push so_far.read last_read))
+        ∙ ap (λ l. take (length read_more) l) (sym list_more)
+
+    few_more : length read_more ≤ 256
+    few_more = rw length_push (omega (arith, as_many, turn.comes.3.2))
+
     front_more : IsFront read_more
     front_more = record {
-      first = ?;
+      first = first_more;
       names = All-append (λ r. IsTrue (is_module_name r.name)) so_far.read (last_read ∷ []) so_far.front.names (All-one (λ (r : Read_module). IsTrue (is_module_name r.name)) last_read (ap is_module_name name_is ∙ source_names source named_good));
-      derived = All-append (λ r. Derives Source r.text r.tree) so_far.read (last_read ∷ []) so_far.front.derived (All-one (λ (r : Read_module). Derives Source r.text r.tree) last_read turn.comes.4);
+      derived = All-append (λ r. Derives Source r.text r.tree) so_far.read (last_read ∷ []) so_far.front.derived (All-one (λ (r : Read_module). Derives Source r.text r.tree) last_read turn.comes.3.1);
       few = few_more;
     }
 
@@ -138,8 +163,67 @@ module _ (files : Option Files) (before between after : Option (List Answer)) (m
     turn_taken = record {
       read = read_more;
       front = front_more;
-      modules = named_more;
-      listing = ap (λ l. with_imports l m.module.imports) (so_far.listing ∙ ap listed so_far.modules) ∙ listed_grows modules m ∙ ap listed (sym named_more);
+      are = named_more;
+      lists = ap (λ l. with_imports l m.module.imports) (so_far.lists ∙ ap listed so_far.are) ∙ listed_grows modules m ∙ ap listed (sym named_more);
       answered = turn.answered ∙ ap (option_map (behind turn.last)) so_far.answered ∙ behind_both (map read_of so_far.read) turn.last before ∙ ap (λ l. option_map (behind l) before) (sym answers_more);
       told = λ told e. subst (All (IsTold told)) (sym answers_more) (All-append (IsTold told) (map read_of so_far.read) turn.last (so_far.told told e) (turn.told told e));
     }
+
+-- ---- the end
+
+not_none : (t : Text) → None ≡ Some t → ⊥
+not_none t h = cc
+
+none_left : (l : List Text) (n : ℕ) → slice_get l n ≡ None → length l ≤ n
+none_left l n h = by (nat_lt n (length l)) refl
+  where
+    by : (b : Bool) → nat_lt n (length l) ≡ b → length l ≤ n
+    by true e = absurd (not_none (get_or l n []) (sym h ∙ slice_get-get_or l n [] (grind (arith, e))))
+    by false e = grind (arith, e)
+
+no_fault : (fault : GatherFault) → None ≡ Some fault → ⊥
+no_fault fault h = cc
+
+some_one : (a b : GatherFault) → Some a ≡ Some b → a ≡ b
+some_one a b h = cc
+
+module _ (files : Option Files) (before after : Option (List Answer)) (modules : List NamedModule) (listing : List Text)
+    (so_far : Gathering files before after modules listing) where
+  nothing_more : (result : Result Modules GatherFault) → Ends so_far.read [] result → Gathers files before after result
+  nothing_more result e = record {
+    read = so_far.read;
+    last = [];
+    front = so_far.front;
+    answered = so_far.answered ∙ ap (λ l. option_map (behind l) before) (sym (append-nil (map read_of so_far.read)));
+    told = λ told k. subst (All (IsTold told)) (sym (append-nil (map read_of so_far.read))) (so_far.told told k);
+    ends = e;
+  }
+
+  pub gathers_want : (result : Result Modules GatherFault) → result ≡ Err Memory → Gathers files before after result
+  gathers_want result e = nothing_more result (subst (Ends so_far.read []) (sym e) want)
+
+  module _ (ended : slice_get listing (length modules) ≡ None) where
+    whole : IsWhole so_far.read
+    whole =
+        so_far.front.first
+        ∙ take_all (length so_far.read) (listed (map named so_far.read))
+          (subst (λ l. length l ≤ length so_far.read) so_far.lists (subst (λ n. length listing ≤ n) (ap length (sym so_far.are) ∙ length-map so_far.read named) (none_left listing (length modules) ended)))
+
+    pub gathers_all : (result : Result Modules GatherFault) → result ≡ Ok (record { list = modules }) → first_missing modules ≡ None → Gathers files before after result
+    gathers_all result e h =
+        nothing_more result (subst (Ends so_far.read []) (ap (λ l. Ok (record { list = l })) so_far.are ∙ sym e) (all whole (ap first_missing so_far.are ∙ h)))
+
+    some_fault : (o : Option (Text × Text)) (fault : GatherFault) → option_map set.unexported o ≡ Some fault → (p : Text × Text) × (o ≡ Some p) × (fault ≡ set.unexported p)
+    some_fault None fault h = absurd (no_fault fault h)
+    some_fault (Some p) fault h = (p, refl, sym (some_one (set.unexported p) fault h))
+
+    pub gathers_unexported : (fault : GatherFault) (result : Result Modules GatherFault) → result ≡ Err fault → (option_map set.unexported (first_missing modules) ≡ Some fault) ⊎ (fault ≡ Memory) → Gathers files before after result
+    gathers_unexported fault result e (inl h) =
+        let found = some_fault (first_missing modules) fault h in
+        nothing_more result (subst (Ends so_far.read []) (sym (e ∙ ap Err found.2)) (unexported whole (ap first_missing so_far.are ∙ found.1)))
+    gathers_unexported fault result e (inr h) = gathers_want result (e ∙ ap Err h)
+
+-- the same gathering, by other names of its parts
+pub as_told : (files : Option Files) (before after : Option (List Answer)) (modules these : List NamedModule) (listing names : List Text)
+    → these ≡ modules → names ≡ listing → Gathering files before after modules listing → Gathering files before after these names
+as_told files before after modules these listing names e f h = subst (λ l. Gathering files before after these l) (sym f) (subst (λ m. Gathering files before after m listing) (sym e) h)
