@@ -51,7 +51,7 @@ module _ (name : Text) (items : List Item) (i : ℕ) (item : Item) (within : i <
       → (has_pair new m n || (same_text name m && exported_in (drop (i + 1) items) n)) ≡ (has_pair old m n || (same_text name m && exported_in (drop i items) n))
   item_entered old new k updated e f out m n =
       ap (λ b. b || (same_text name m && exported_in (drop (i + 1) items) n))
-          (pair_more old new k updated m n ∙ ap (λ (t : Text). cond (same_text t m && same_text k.1.now n) true (has_pair old m n)) e ∙ ap (λ (t : Text). cond (same_text name m && same_text t n) true (has_pair old m n)) f)
+      (pair_more old new k updated m n ∙ ap (λ (t : Text). cond (same_text t m && same_text k.1.now n) true (has_pair old m n)) e ∙ ap (λ (t : Text). cond (same_text name m && same_text t n) true (has_pair old m n)) f)
       ∙ entered (has_pair old m n) (same_text name m) (same_text item.name n) (exported_in (drop (i + 1) items) n)
       ∙ ap (λ b. has_pair old m n || (same_text name m && ((b && same_text item.name n) || exported_in (drop (i + 1) items) n))) (sym out)
       ∙ ap (λ l. has_pair old m n || (same_text name m && exported_in l n)) (sym (drop_step items i item within there))

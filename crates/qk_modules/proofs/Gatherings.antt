@@ -207,7 +207,7 @@ module _ (files : Option Files) (before after : Option (List Answer)) (modules :
     whole =
         so_far.front.first
         ∙ take_all (length so_far.read) (listed (map named so_far.read))
-          (subst (λ l. length l ≤ length so_far.read) so_far.lists (subst (λ n. length listing ≤ n) (ap length (sym so_far.are) ∙ length-map so_far.read named) (none_left listing (length modules) ended)))
+        (subst (λ l. length l ≤ length so_far.read) so_far.lists (subst (λ n. length listing ≤ n) (ap length (sym so_far.are) ∙ length-map so_far.read named) (none_left listing (length modules) ended)))
 
     pub gathers_all : (result : Result Modules GatherFault) → result ≡ Ok (record { list = modules }) → first_missing modules ≡ None → Gathers files before after result
     gathers_all result e h =

@@ -96,6 +96,6 @@ by_import all (i ∷ imports) = one (same_text i.from framework) (by_import all 
     one : (b : Bool) → with_imports all imports ≡ with_sources all (sources_in imports)
         → with_imports (with_source all i.from) imports ≡ with_sources (with_source all i.from) (sources_in imports)
         → with_imports (elim b as (λ _. List Text) [ true ↦ all | false ↦ with_source all i.from ]) imports
-            ≡ with_sources all (elim b as (λ _. List Text) [ true ↦ sources_in imports | false ↦ i.from ∷ sources_in imports ])
+        ≡ with_sources all (elim b as (λ _. List Text) [ true ↦ sources_in imports | false ↦ i.from ∷ sources_in imports ])
     one true old new = old
     one false old new = new

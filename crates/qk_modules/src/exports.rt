@@ -111,10 +111,7 @@ fn add_exports<'a>(
 }
 
 /// The first imported name that its source doesn't export.
-fn missing_in<'a>(
-    exports: &BTreeSet<(&'a str, &'a str)>,
-    imports: &'a [Import],
-) -> Option<&'a Text>
+fn missing_in<'a>(exports: &BTreeSet<(&'a str, &'a str)>, imports: &'a [Import]) -> Option<&'a Text>
     ensures { option_copied result ≡ gathering.missing_in (is_in_set exports.now) imports.now }
 {
     for import in imports {
@@ -142,11 +139,7 @@ fn missing_name<'a>(
 }
 
 /// Whether the source exports the name.
-fn is_exported<'a>(
-    exports: &BTreeSet<(&'a str, &'a str)>,
-    source: &'a Text,
-    name: &'a Text,
-) -> bool
+fn is_exported<'a>(exports: &BTreeSet<(&'a str, &'a str)>, source: &'a Text, name: &'a Text) -> bool
     ensures { result ≡ is_in_set exports.now source.now name.now }
 {
     let (source, name) = (source.as_str(), name.as_str());

@@ -14,3 +14,6 @@ pub use fault::{GatherFault, ModulesFault};
 pub use gatherer::gather;
 pub use modules::{Modules, NamedModule};
 pub use table::imports;
+
+#[cfg(test)]
+mod tests;

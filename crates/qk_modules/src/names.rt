@@ -50,7 +50,11 @@ pub(crate) fn named_by(source: &str) -> Option<&str>
     ensures { option_copied result ≡ named_by source.now }
 {
     let base = base_of(source)?;
-    if is_module_name(base) { Some(base) } else { None }
+    if is_module_name(base) {
+        Some(base)
+    } else {
+        None
+    }
 }
 
 /// The name of the file of this module.

@@ -12,7 +12,7 @@ loop-item-preserved c = λ m n.
       | then-item+in_ok-insert w ↦
           ap (λ (set : Pairs). has_pair set m n || (same_text c.args.name.now m && exported_in (drop (c.loop-item.item-index + 1) c.args.items.now) n)) w.exports-is
           ∙ item_entered c.args.name.now c.args.items.now c.loop-item.item-index c.item-item.result c.loop-item-test.true c.item-item.is
-              c.loop-item.exports w.insert.new.self (c.args.name, w.as_str.result) w.in_ok-insert.ensures.updates refl w.as_str.ensures w.if-item.true m n
+          c.loop-item.exports w.insert.new.self (c.args.name, w.as_str.result) w.in_ok-insert.ensures.updates refl w.as_str.ensures w.if-item.true m n
           ∙ c.loop-item.invariant m n
       | else-item w ↦
           ap (λ (set : Pairs). has_pair set m n || (same_text c.args.name.now m && exported_in (drop (c.loop-item.item-index + 1) c.args.items.now) n)) w.exports-is

@@ -16,5 +16,5 @@ pub returns-in-Err : goal.returns-in-Err
 returns-in-Err c =
     subst (RefusedText c.args.before c.args.name c.args.bytes.now) (sym c.unparsed.ensures)
     (text_refused c.args.before c.args.name c.args.bytes.now c.in-Err.fault c.in-Ok.ensures.cases.1
-      (subst (λ t. Refused Source t c.in-Err.fault) c.in-Ok.ensures.cases.0 c.in-Err.ensures.refused)
-      (subst (λ t. NoneDerived Source t c.in-Err.fault) c.in-Ok.ensures.cases.0 c.in-Err.ensures.none))
+    (subst (λ t. Refused Source t c.in-Err.fault) c.in-Ok.ensures.cases.0 c.in-Err.ensures.refused)
+    (subst (λ t. NoneDerived Source t c.in-Err.fault) c.in-Ok.ensures.cases.0 c.in-Err.ensures.none))
