@@ -1,13 +1,13 @@
 -- The set of exports, as it grows, and what it says of names.
-use Rattle.std.specs.Prelude.{◌≡◌, refl, ℕ, ◌+◌, ◌<◌, Bool, true, false, ◌&&◌, ◌||◌, List, [], ◌∷◌, Some, None, Option, drop, length, bytes_eq, codes}
-use Rattle.std.proofs.Common.{ap, sym, subst, ◌∙◌, cond, get_or, add-one, suc}
+use Rattle.std.specs.Prelude.{◌≡◌, refl, ℕ, ◌+◌, ◌<◌, Bool, true, false, ◌&&◌, ◌||◌, List, ◌∷◌, Some, None, Option, drop, length, bytes_eq, codes}
+use Rattle.std.proofs.Common.{ap, sym, ◌∙◌, cond, get_or, add-one, suc}
 use Rattle.std.proofs.Math.Seq.{drop-cons}
 use Rattle.std.specs.Borrow.{Bor}
 use Rattle.std.specs.declared.cmp.Ordering.{Ordering}
 use Rattle.std.specs.declared.cmp.Ordering.TheVariants.{Less, Equal, Greater}
 use Rattle.std.specs.Ordering.{is_eq, nat_cmp, ordering_then}
 use Rattle.std.specs.Cmp.Lexicographic.{slice_cmp}
-use Rattle.std.specs.BTreeSet.{Updates, contains}
+use Rattle.std.specs.BTreeSet.{Updates}
 use Rattle.std.proofs.lemmas.Map.Text.{is_eq-slice_cmp}
 use Rattle.qk_ast.specs.declared.Item.{Item}
 use Rattle.qk_ast.specs.Texts.{Text, same_text, is_among}

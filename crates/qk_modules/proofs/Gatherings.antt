@@ -18,10 +18,10 @@ use Rattle.qk_store.specs.Answers.{bytes, Answer}
 use Rattle.qk_modules.specs.declared.modules.NamedModule.{NamedModule}
 use Rattle.qk_modules.specs.declared.modules.Modules.{Modules}
 use Rattle.qk_modules.specs.declared.fault.GatherFault.{GatherFault}
-use Rattle.qk_modules.specs.declared.fault.GatherFault.TheVariants.{Memory, ExportMissing}
+use Rattle.qk_modules.specs.declared.fault.GatherFault.TheVariants.{Memory}
 use Rattle.qk_modules.specs.Gathering.{root, source_of, sources_in, all_sources, listed, Read_module, named, IsFront, IsWhole, IsNext, read_as, read_of, IsTold, RefusedTurn, Ends, all, unexported, refused, want, behind, Gathers, first_missing}
-use Rattle.qk_modules.specs.Listing.{with_imports, with_sources}
-use Rattle.qk_modules.specs.Turns.{Turns, TurnComes, TextComes}
+use Rattle.qk_modules.specs.Listing.{with_imports}
+use Rattle.qk_modules.specs.Turns.{Turns}
 use Rattle.qk_modules.specs.Exporting as set
 use Rattle.qk_modules.proofs.Sourcing.{source_is, source_names}
 use Rattle.qk_modules.proofs.Listed.{grows, each_once_both, by_import}

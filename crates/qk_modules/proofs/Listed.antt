@@ -1,6 +1,6 @@
 -- How a list of texts, each once, grows.
-use Rattle.std.specs.Prelude.{◌≡◌, refl, ℕ, Bool, true, false, ◌||◌, List, [], ◌∷◌, ◌++◌, String, bytes_eq}
-use Rattle.std.proofs.Common.{ap, sym, subst, ◌∙◌, cond}
+use Rattle.std.specs.Prelude.{◌≡◌, refl, Bool, true, false, List, [], ◌∷◌, ◌++◌, String, bytes_eq}
+use Rattle.std.proofs.Common.{ap, sym, ◌∙◌, cond}
 use Rattle.std.proofs.lemmas.List.{append-nil, append_assoc}
 use Rattle.std.specs.String.{string_cmp, string_bytes}
 use Rattle.std.specs.BTreeSet as sorted

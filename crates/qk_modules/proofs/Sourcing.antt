@@ -1,5 +1,5 @@
 -- The module that a source names.
-use Rattle.std.specs.Prelude.{◌≡◌, refl, ℕ, ◌==◌, Bool, true, false, ◌&&◌, ◌||◌, List, [], ◌∷◌, ◌++◌, Some, None, Option, codes, nat_lt, length}
+use Rattle.std.specs.Prelude.{◌≡◌, refl, ℕ, ◌==◌, Bool, true, false, ◌&&◌, ◌||◌, [], ◌∷◌, ◌++◌, Some, None, Option, codes, nat_lt, length}
 use Rattle.std.proofs.Common.{ap, sym, subst, ◌∙◌}
 use lib.Dec.{eqb→eq, T}
 use Rattle.std.proofs.lemmas.Bool.{false≢true}

@@ -1,5 +1,5 @@
 -- Why a text is refused, from what the parser says, and what a read says of a file.
-use Rattle.std.specs.Prelude.{◌≡◌, refl, ℕ, List}
+use Rattle.std.specs.Prelude.{◌≡◌, ℕ}
 use Rattle.std.specs.Str.{IsUtf8}
 use Rattle.qk_ast.specs.declared.Form.TheVariants.{Source}
 use Rattle.qk_ast.specs.Texts.{Text}

@@ -1,11 +1,9 @@
 -- A turn, from what was read in it.
-use Rattle.std.specs.Prelude.{◌≡◌, refl, ℕ, ◌<◌, Bool, true, false, List, [], ◌∷◌, ◌++◌, length, All, Option, Some, None, Result, Ok, Err}
+use Rattle.std.specs.Prelude.{◌≡◌, refl, ℕ, Bool, true, false, List, [], ◌∷◌, length, All, Option, Some, None, Result, Ok, Err}
 use Rattle.std.specs.Option.{option_map}
 use Rattle.std.proofs.Common.{ap, sym, subst, ◌∙◌, arith, zero, suc, ◌⊎◌, inl, inr}
 use Rattle.std.proofs.lemmas.List.{append-nil}
 use Rattle.std.proofs.lemmas.List.Elements.{All-nil}
-use Rattle.qk_ast.specs.declared.Form.TheVariants.{Source}
-use Rattle.qk_ast.specs.Derives.{Derives}
 use Rattle.qk_ast.specs.Texts.{Text}
 use Rattle.qk_ast.specs.Sources.{source_module, is_module_source}
 use Rattle.qk_store.specs.Files.{Files}
@@ -14,7 +12,7 @@ use Rattle.qk_modules.specs.declared.modules.NamedModule.{NamedModule}
 use Rattle.qk_modules.specs.declared.fault.GatherFault.{GatherFault}
 use Rattle.qk_modules.specs.declared.fault.GatherFault.TheVariants.{Store, Memory, Parse}
 use Rattle.qk_parse.specs.declared.parse.ParseFault.TheVariants as parse
-use Rattle.qk_modules.specs.Gathering.{named_by, file_of, read_as, IsTold, absence, RefusedText, RefusedTurn, no_source, no_file, long, text, failed, want, want_behind, behind}
+use Rattle.qk_modules.specs.Gathering.{named_by, file_of, read_as, IsTold, absence, RefusedTurn, no_source, no_file, long, text, failed, want, want_behind, behind}
 use Rattle.qk_modules.specs.Turns.{Turns, TurnComes, TextComes}
 
 not_some : (t : Text) → None ≡ Some t → ⊥

@@ -1,5 +1,5 @@
 -- A list of texts, each once: how it grows.
-use Rattle.std.specs.Prelude.{Bool, true, false, List, [], ◌∷◌, ◌++◌}
+use Rattle.std.specs.Prelude.{true, false, List, [], ◌∷◌, ◌++◌}
 use Rattle.qk_ast.specs.declared.Import.{Import}
 use Rattle.qk_ast.specs.Texts.{Text, same_text}
 use Rattle.qk_ast.specs.Framework.{framework}

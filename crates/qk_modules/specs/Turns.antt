@@ -1,5 +1,5 @@
 -- One module at its turn.
-use Rattle.std.specs.Prelude.{◌≡◌, ◌<◌, ℕ, IsTrue, List, [], ◌∷◌, length, All, Option, Some, None, true, false, Result, Ok, Err}
+use Rattle.std.specs.Prelude.{◌≡◌, ◌<◌, ℕ, IsTrue, List, [], ◌∷◌, length, All, Option, Some, Result, Ok, Err}
 use Rattle.std.specs.Option.{option_map}
 use Rattle.qk_ast.specs.declared.Form.TheVariants.{Source}
 use Rattle.qk_ast.specs.Derives.{Derives}

@@ -1,4 +1,4 @@
-use Rattle.std.proofs.Common.{rules, arith, ◌≡◌, refl, sym, ap, subst, ◌∙◌, List, [], ◌∷◌, ◌++◌, Some, None, Ok, Err, slice_get, Result, ◌⊎◌}
+use Rattle.std.proofs.Common.{rules, ◌≡◌, refl, sym, ap, subst, ◌∙◌, List, [], ◌∷◌, ◌++◌, Some, None, Ok, Err, slice_get, Result, ◌⊎◌}
 use Rattle.std.specs.Option.{option_map}
 use Rattle.qk_modules.specs.declared.modules.NamedModule.{NamedModule}
 use Rattle.qk_modules.specs.declared.modules.Modules.{Modules}
