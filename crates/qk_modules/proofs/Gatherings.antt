@@ -227,3 +227,14 @@ module _ (files : Option Files) (before after : Option (List Answer)) (modules :
 pub as_told : (files : Option Files) (before after : Option (List Answer)) (modules these : List NamedModule) (listing names : List Text)
     → these ≡ modules → names ≡ listing → Gathering files before after modules listing → Gathering files before after these names
 as_told files before after modules these listing names e f h = subst (λ l. Gathering files before after these l) (sym f) (subst (λ m. Gathering files before after m listing) (sym e) h)
+
+-- whose turn it is, and that none is left, by the place that was looked up
+pub next_there : (listing : List Text) (n k : ℕ) (source : Text) → n ≡ k → Some source ≡ slice_get listing n → slice_get listing k ≡ Some source
+next_there listing n k source e h = ap (slice_get listing) (sym e) ∙ sym h
+
+pub none_there : (listing : List Text) (n k : ℕ) → n ≡ k → None ≡ slice_get listing n → slice_get listing k ≡ None
+none_there listing n k e h = ap (slice_get listing) (sym e) ∙ sym h
+
+pub turn_as_told : (these files : Option Files) (between after : Option (List Answer)) (lent modules : List NamedModule) (source : Text) (result : Result NamedModule GatherFault)
+    → these ≡ files → lent ≡ modules → Turns these between after lent source result → Turns files between after modules source result
+turn_as_told these files between after lent modules source result e f h = subst (λ t. Turns t between after modules source result) e (subst (λ m. Turns these between after m source result) f h)
