@@ -19,7 +19,7 @@ fn answer(alloc: Global, text: &str, form: Form) -> Result<(), ParseFault> {
 fn free_of(alloc: Global, module: &Module) -> Option<List<Text>> {
     let item = module.items.as_slice().first()?;
     match &item.init {
-        Expr::Arrow(arrow) => free(alloc, arrow).ok(),
+        Expr::Arrow(arrow) => free(alloc, arrow.get()).ok(),
         _ => None,
     }
 }
@@ -47,28 +47,39 @@ fn has_free(alloc: Global, text: &str, form: Form, expected: &[&str]) -> bool {
     }
 }
 
+fn source(alloc: Global, text: &str, expected: &[&str]) -> bool {
+    has_free(alloc, text, Form::Source, expected)
+}
+
 #[test]
 fn free_names(rt: HostRuntime) -> Result<(), Fail> {
     let alloc = rt.alloc();
-    let source = |text: &str, expected: &[&str]| has_free(alloc, text, Form::Source, expected);
-    assert!(rt; source("const f = (a) => [b, a + b, c];", &["b", "c"]));
-    assert!(rt; source("const f = (a) => [(b) => a + b, b];", &["b"]));
+    assert!(rt; source(alloc, "const f = (a) => [b, a + b, c];", &["b", "c"]));
+    assert!(rt; source(alloc, "const f = (a) => [(b) => a + b, b];", &["b"]));
     // A block's name is its own in the whole of it.
-    assert!(rt; source("const f = (a) => { c + b; const c = a; };", &["b"]));
-    assert!(rt; source("const f = (a) => { { const b = a; } b; };", &["b"]));
+    assert!(rt; source(alloc, "const f = (a) => { c + b; const c = a; };", &["b"]));
+    assert!(rt; source(alloc, "const f = (a) => { { const b = a; } b; };", &["b"]));
     assert!(rt;
         source(
+            alloc,
             "const f = (a) => { for (const x of x) { x + y; } x; };",
             &["x", "y"]
         )
     );
     assert!(rt;
         source(
+            alloc,
             "const f = ({ a, b }) => <Card size={b}>{c}</Card>;",
             &["Card", "c"]
         )
     );
-    assert!(rt; source("const f = () => ({ a, b: c, d: { e: a } });", &["a", "c"]));
+    assert!(rt;
+        source(
+            alloc,
+            "const f = () => ({ a, b: c, d: { e: a } });",
+            &["a", "c"]
+        )
+    );
     // The names of the scope of a built file stand around the arrow's own.
     assert!(rt;
         has_free(
