@@ -1,8 +1,7 @@
 #!/usr/bin/env python3
-"""Times reading, parsing and printing real module text of 64 KiB, 256 KiB and 1 MiB, in one run beside esbuild on the same text, and prints a table.
+"""Times reading and parsing real module text of 64 KiB, 256 KiB and 1 MiB, in one run beside esbuild on the same text, and prints a table.
 
-ours      `qk_reprint`, the whole process: the module is read, parsed and printed in the layout of built files
-parsed    `qwk replay` of an empty script: the whole process up to the parsed module, which is then refused as not yet played
+ours      `replay` of an empty script: the whole process up to the parsed module, which is then refused as not yet played
 esbuild   `esbuild --jsx=preserve --loader:.jsx=jsx`, one thread, its output thrown away: it also prints the module
 Each figure is the best of many runs of the whole process. `growth` is the time of the row over that of the row before, less the start of the
 process (an empty module); 4.0 is linear. `memory` is the greatest resident size less that of an empty module, in bytes a byte of text."""
@@ -12,9 +11,6 @@ top = os.path.dirname(os.path.dirname(os.path.abspath(__file__)))
 program = os.path.join(top, "crates", "qwk", "out", "qwk")
 if not os.access(program, os.X_OK):
     subprocess.run([os.path.join(top, "qwk")], stdout=subprocess.DEVNULL)
-reprint = os.path.join(top, "crates", "qk_reprint", "out", "qk_reprint")
-if not os.access(reprint, os.X_OK):
-    subprocess.run(["rt", "run"], cwd=os.path.dirname(os.path.dirname(reprint)), stdin=subprocess.DEVNULL, stdout=subprocess.DEVNULL)
 esbuild = shutil.which("esbuild")
 
 IMPORT = 'import { component$, useComputed$, useSignal, useStore } from "@builder.io/qwik";\n'
@@ -74,8 +70,7 @@ def best(command, folder, runs=20):
     return min(r[0] for r in results) * 1000, min(r[1] for r in results)
 
 
-OURS = [reprint, "root.jsx"]
-PARSED = [program, "replay", "s"]
+OURS = [program, "replay", "s"]
 THEIRS = [esbuild, "--jsx=preserve", "--loader:.jsx=jsx", "root.jsx"] if esbuild else None
 
 with tempfile.TemporaryDirectory() as folder:
@@ -87,18 +82,17 @@ with tempfile.TemporaryDirectory() as folder:
     write("root.jsx", "")
     start, bare = best(OURS, folder)
     print(f"start of our process, an empty module: {start:.2f} ms")
-    print("| KiB | ours, ms | MB/s | growth | memory | parsed, ms | MB/s | esbuild, ms | MB/s |")
-    print("|---|---|---|---|---|---|---|---|---|")
+    print("| KiB | ours, ms | MB/s | growth | memory | esbuild, ms | MB/s |")
+    print("|---|---|---|---|---|---|---|")
     before = None
     for kib in (64, 256, 1024):
         text = module(kib * 1024)
         write("root.jsx", text)
         whole, size = best(OURS, folder)
-        parsed = best(PARSED, folder)[0]
         work = whole - start
         growth = "" if before is None else f"{work / before:.2f}"
         memory = (size - bare) * 1024 / len(text)
         theirs = best(THEIRS, folder)[0] if THEIRS else None
         speed = lambda ms: f"{len(text) / ms / 1000:.1f}"
-        print(f"| {kib} | {whole:.2f} | {speed(whole)} | {growth} | {memory:.0f} | {parsed:.2f} | {speed(parsed)} | " + (f"{theirs:.2f} | {speed(theirs)} |" if theirs else "- | - |"))
+        print(f"| {kib} | {whole:.2f} | {speed(whole)} | {growth} | {memory:.0f} | " + (f"{theirs:.2f} | {speed(theirs)} |" if theirs else "- | - |"))
         before = work
