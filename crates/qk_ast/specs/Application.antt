@@ -11,10 +11,10 @@ pub data Breach : Type 0 where
   Of_names : Text → Naming_breach → Breach
   Of_places : Text → Placing_breach → Breach
 
-abbrev naming_of : Named_module → List Breach
+abbrev pub naming_of : Named_module → List Breach
 naming_of m = map (Of_names m.0) (all_naming_breaches Source m.0 m.1)
 
-abbrev placing_of : List Named_module → Named_module → List Breach
+abbrev pub placing_of : List Named_module → Named_module → List Breach
 placing_of modules m = map (Of_places m.0) (all_placing_breaches m.0 (root_kind modules m.1) m.1)
 
 -- The modules keep all rules where there are none, and else they are refused for the first.

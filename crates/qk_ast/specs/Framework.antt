@@ -55,7 +55,7 @@ abbrev pub behind_bar : Text → Text
 behind_bar [] = []
 behind_bar (c ∷ cs) = elim (c == 95) [ true ↦ cs | false ↦ behind_bar cs ]
 
-abbrev behind_s : Text → Text
+abbrev pub behind_s : Text → Text
 behind_s [] = []
 behind_s (c ∷ cs) = elim (c == 115) [ true ↦ cs | false ↦ [] ]
 

@@ -34,11 +34,11 @@ abbrev pub root_names : Form → Text → Module → List Text
 root_names form file m = import_names m.imports ++ elim (is_segment form file) [ true ↦ others_than (file ∷ []) (item_names m.items) | false ↦ item_names m.items ]
 
 -- a use that means a local, and one that means a name of the root or nothing
-abbrev local_breaches : Text → (assigned : Bool) → Local → List Naming_breach
+abbrev pub local_breaches : Text → (assigned : Bool) → Local → List Naming_breach
 local_breaches name assigned local = breach_if (is_variable local.kind && local.in_arrow) LetCaptured name
     ++ (breach_if (assigned && not (is_variable local.kind)) ConstAssigned name ++ breach_if (not local.ended) EarlyUse name)
 
-abbrev root_breaches : Text → (assigned : Bool) → (known : Bool) → List Naming_breach
+abbrev pub root_breaches : Text → (assigned : Bool) → (known : Bool) → List Naming_breach
 root_breaches name assigned true = breach_if assigned ConstAssigned name
 root_breaches name assigned false = breach_if true UnknownName name
 

@@ -35,11 +35,11 @@ refuse_if false kind name = []
 pub data Root_kind : Type 0 where
   A_component A_context Else : Root_kind
 
-abbrev is_one_text : List Expr → Bool
+abbrev pub is_one_text : List Expr → Bool
 is_one_text (e ∷ []) = is_text_literal e
 is_one_text _ = false
 
-abbrev called_kind : Option Text → Called → Root_kind
+abbrev pub called_kind : Option Text → Called → Root_kind
 called_kind (Some name) (With arguments true) =
     elim (same_text name (codes "component$")) [
       | true ↦ A_component
@@ -57,21 +57,21 @@ item_kind name [] = Else
 item_kind name (i ∷ rest) = elim (same_text i.name name) [ true ↦ kind_of_value i.init | false ↦ item_kind name rest ]
 
 -- a name of the root of a module: an imported one is what the other module has under it
-abbrev imported_kind : List Named_module → Text → Text → Root_kind
+abbrev pub imported_kind : List Named_module → Text → Text → Root_kind
 imported_kind modules source name = elim (same_text source framework) [ true ↦ Else | false ↦ item_kind name (module_of modules (source_module source)).items ]
 
-abbrev root_kind_from : List Named_module → List Import → List Root_item → Text → Root_kind
+abbrev pub root_kind_from : List Named_module → List Import → List Root_item → Text → Root_kind
 root_kind_from modules [] items name = item_kind name items
 root_kind_from modules (i ∷ rest) items name = elim (is_listed name i.names) [ true ↦ imported_kind modules i.from name | false ↦ root_kind_from modules rest items name ]
 
 abbrev pub root_kind : List Named_module → Module → Text → Root_kind
 root_kind modules m name = root_kind_from modules m.imports m.items name
 
-abbrev is_component : Root_kind → Bool
+abbrev pub is_component : Root_kind → Bool
 is_component A_component = true
 is_component _ = false
 
-abbrev is_context : Root_kind → Bool
+abbrev pub is_context : Root_kind → Bool
 is_context A_context = true
 is_context _ = false
 
@@ -97,22 +97,22 @@ abbrev mutual
   are_data_fields end_of-Field = true
   are_data_fields (more_of-Field key e rest) = is_data e && are_data_fields rest
 
-abbrev is_arrow : Expr → Bool
+abbrev pub is_arrow : Expr → Bool
 is_arrow (Expr.Arrow' _ arrow) = true
 is_arrow _ = false
 
-abbrev is_made : Root_kind → Bool
+abbrev pub is_made : Root_kind → Bool
 is_made Else = false
 is_made _ = true
 
 abbrev pub is_item : Expr → Bool
 is_item e = is_made (kind_of_value e) || is_arrow e || is_data e
 
-abbrev is_app : Text → Text → Bool
+abbrev pub is_app : Text → Text → Bool
 is_app file name = same_text file (codes "root") && same_text name (codes "App")
 
 -- `App` of the module `root` is a component before all else
-abbrev item_breaches : Text → Text → Expr → List Placing_breach
+abbrev pub item_breaches : Text → Text → Expr → List Placing_breach
 item_breaches file name init = refuse_if (is_app file name && not (is_component (kind_of_value init))) NotComponent name ++ refuse_if (not (is_item init)) RootValue name
 
 -- ---- hooks
@@ -124,7 +124,7 @@ abbrev pub context_hooks : List Text
 context_hooks = codes "useContext" ∷ codes "useContextProvider" ∷ []
 
 -- how many arguments a hook takes
-abbrev is_count : Text → ℕ → Bool
+abbrev pub is_count : Text → ℕ → Bool
 is_count hook n =
     elim (same_text hook (codes "useSignal")) [
       | true ↦ nat_le n 1
@@ -132,23 +132,23 @@ is_count hook n =
     ]
 
 -- what may stand for a context: a name that means a context id of the root
-abbrev is_context_name : (Text → Root_kind) → List Scope → Option Text → Bool
+abbrev pub is_context_name : (Text → Root_kind) → List Scope → Option Text → Bool
 is_context_name roots scopes (Some name) = not (is_local name scopes) && is_context (roots name)
 is_context_name roots scopes None = false
 
-abbrev first_name : List Expr → Option Text
+abbrev pub first_name : List Expr → Option Text
 first_name [] = None
 first_name (e ∷ rest) = name_in e
 
-abbrev takes : (Text → Root_kind) → List Scope → Text → Called → Bool
+abbrev pub takes : (Text → Root_kind) → List Scope → Text → Called → Bool
 takes roots scopes hook (With arguments true) = is_count hook (length arguments) && (not (is_among hook context_hooks) || is_context_name roots scopes (first_name arguments))
 takes roots scopes hook _ = false
 
-abbrev is_hook_value : Standing → Bool
+abbrev pub is_hook_value : Standing → Bool
 is_hook_value Hook_value = true
 is_hook_value _ = false
 
-abbrev is_hook_statement : Standing → Bool
+abbrev pub is_hook_statement : Standing → Bool
 is_hook_statement Hook_statement = true
 is_hook_statement _ = false
 
@@ -159,15 +159,15 @@ is_misplaced_hook roots name call standing scopes =
     || (is_among name statement_hooks && not (is_hook_statement standing && takes roots scopes name call))
 
 -- a context id's name elsewhere than as the first argument of a context hook
-abbrev is_context_argument : Called → Standing → Bool
+abbrev pub is_context_argument : Called → Standing → Bool
 is_context_argument Not_called (Argument hook true) = is_among hook context_hooks
 is_context_argument _ _ = false
 
-abbrev is_misplaced_context : (Text → Root_kind) → Text → Called → Standing → Bool
+abbrev pub is_misplaced_context : (Text → Root_kind) → Text → Called → Standing → Bool
 is_misplaced_context roots name call standing = is_context (roots name) && not (is_context_argument call standing)
 
 -- `track(() => e)`
-abbrev is_tracking : Called → Bool
+abbrev pub is_tracking : Called → Bool
 is_tracking (With (Expr.Arrow' _ (more_of-Arrow place [] (Body.Value' _ e) _) ∷ []) whole) = true
 is_tracking _ = false
 
@@ -176,7 +176,7 @@ is_tracking _ = false
 abbrev pub dollar_names : List Text
 dollar_names = codes "component$" ∷ codes "$" ∷ codes "useTask$" ∷ codes "useComputed$" ∷ []
 
-abbrev has_parameters : Text → List Pattern → Bool
+abbrev pub has_parameters : Text → List Pattern → Bool
 has_parameters callee params =
     elim (same_text callee (codes "component$")) [
       | true ↦ nat_le (length params) 1
@@ -186,21 +186,21 @@ has_parameters callee params =
       ]
     ]
 
-abbrev is_dollar_argument : Text → List Expr → Bool
+abbrev pub is_dollar_argument : Text → List Expr → Bool
 is_dollar_argument callee (Expr.Arrow' _ (more_of-Arrow place params body _) ∷ []) = has_parameters callee params
 is_dollar_argument callee _ = false
 
-abbrev is_dollar_call_refused : Text → Called → Bool
+abbrev pub is_dollar_call_refused : Text → Called → Bool
 is_dollar_call_refused name (With arguments whole) = is_among name dollar_names && not (is_dollar_argument name arguments)
 is_dollar_call_refused name Not_called = false
 
 -- ---- other framework names
 
-abbrev is_root_value : Called → Standing → Bool
+abbrev pub is_root_value : Called → Standing → Bool
 is_root_value (With arguments true) Root_value = true
 is_root_value _ _ = false
 
-abbrev takes_one : Called → Bool
+abbrev pub takes_one : Called → Bool
 takes_one (With (e ∷ []) whole) = true
 takes_one _ = false
 
@@ -211,17 +211,17 @@ is_misused name call standing =
 
 -- ---- the rules
 
-abbrev root_use_breaches : (Text → Root_kind) → Text → Called → Standing → List Scope → List Placing_breach
+abbrev pub root_use_breaches : (Text → Root_kind) → Text → Called → Standing → List Scope → List Placing_breach
 root_use_breaches roots name call standing scopes =
     refuse_if (is_misplaced_hook roots name call standing scopes || is_misplaced_context roots name call standing) HookPlace name
     ++ (refuse_if (is_dollar_call_refused name call) DollarArgument name
     ++ (refuse_if (is_misused name call standing) RootValue name ++ refuse_if (is_component (roots name)) NotComponent name))
 
-abbrev local_use_breaches : Text → Called → Local → List Placing_breach
+abbrev pub local_use_breaches : Text → Called → Local → List Placing_breach
 local_use_breaches name call local = elim local.kind [ Tracker ↦ refuse_if (local.in_arrow || not (is_tracking call)) HookPlace name | _ ↦ [] ]
 
 -- a capital tag
-abbrev capital_breaches : (Text → Root_kind) → Text → List Scope → List Placing_breach
+abbrev pub capital_breaches : (Text → Root_kind) → Text → List Scope → List Placing_breach
 capital_breaches roots name scopes =
     elim (is_local name scopes) [
       | true ↦ refuse_if true NotComponent name
@@ -243,7 +243,7 @@ placing_breaches file roots (Attributed tag name value earlier) = refuse_if (not
 abbrev pub most_sites : ℕ
 most_sites = 4096
 
-abbrev site_breaches : Module → List Placing_breach
+abbrev pub site_breaches : Module → List Placing_breach
 site_breaches m = refuse_if (not (nat_le (length (of_kind true (item_arrows m.items))) most_sites)) TooManySites (codes "-")
 
 -- All breaches of a module of that name, in text order, that on the number of sites last.

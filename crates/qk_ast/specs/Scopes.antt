@@ -72,7 +72,7 @@ abbrev pub is_track : List Pattern → Bool
 is_track (Pattern.Fields (name ∷ []) ∷ []) = same_text name (codes "track")
 is_track _ = false
 
-abbrev parameter_kind : Mark → List Pattern → Kind
+abbrev pub parameter_kind : Mark → List Pattern → Kind
 parameter_kind Tasked params = elim (is_track params) [ true ↦ Tracker | false ↦ Constant ]
 parameter_kind mark params = Constant
 

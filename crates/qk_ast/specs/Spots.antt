@@ -45,7 +45,7 @@ abbrev pub arguments_of : {m : _} → Row_of-Expr m → List Expr
 arguments_of end_of-Expr = []
 arguments_of (more_of-Expr e rest) = e ∷ arguments_of rest
 
-abbrev is_last : {m : _} → Row_of-Link m → Bool
+abbrev pub is_last : {m : _} → Row_of-Link m → Bool
 is_last end_of-Link = true
 is_last (more_of-Link link rest) = false
 
@@ -55,15 +55,15 @@ called (more_of-Link (Link.Prop name) rest) = Not_called
 called (more_of-Link (Link.Index e) rest) = Not_called
 called (more_of-Link (Link.Call' _ all) rest) = With (arguments_of all) (is_last rest)
 
-abbrev argument_of : Option Text → (first : Bool) → Standing
+abbrev pub argument_of : Option Text → (first : Bool) → Standing
 argument_of (Some callee) first = Argument callee first
 argument_of None first = Anywhere
 
-abbrev standing_mark : Standing → Mark
+abbrev pub standing_mark : Standing → Mark
 standing_mark (Argument callee first) = name_mark callee
 standing_mark _ = Unmarked
 
-abbrev is_component_arrow : Standing → Bool
+abbrev pub is_component_arrow : Standing → Bool
 is_component_arrow (Argument callee first) = same_text callee (codes "component$")
 is_component_arrow _ = false
 
@@ -72,15 +72,15 @@ is_component_arrow _ = false
 abbrev pub statement_hooks : List Text
 statement_hooks = codes "useTask$" ∷ codes "useContextProvider" ∷ []
 
-abbrev is_whole_call : Called → Bool
+abbrev pub is_whole_call : Called → Bool
 is_whole_call Not_called = false
 is_whole_call (With arguments whole) = whole
 
-abbrev is_named : List Text → Option Text → Bool
+abbrev pub is_named : List Text → Option Text → Bool
 is_named names (Some name) = is_among name names
 is_named names None = false
 
-abbrev is_hook_call : Expr → Bool
+abbrev pub is_hook_call : Expr → Bool
 is_hook_call (Expr.Post' _ (more_of-Expr head _) _ links) = is_named statement_hooks (name_in head) && is_whole_call (called links)
 is_hook_call _ = false
 
@@ -90,15 +90,15 @@ lets_hooks_follow (Stmt.Const pattern e) = true
 lets_hooks_follow (Stmt.Do e) = is_hook_call e
 lets_hooks_follow _ = false
 
-abbrev where_hooks : Standing → (hooks : Bool) → Standing
+abbrev pub where_hooks : Standing → (hooks : Bool) → Standing
 where_hooks standing true = standing
 where_hooks standing false = Anywhere
 
-abbrev const_standing : Pattern → (hooks : Bool) → Standing
+abbrev pub const_standing : Pattern → (hooks : Bool) → Standing
 const_standing (Pattern.Name name) hooks = where_hooks Hook_value hooks
 const_standing pattern hooks = Anywhere
 
-abbrev has_children : {m : _} → Row_of-Expr m → Bool
+abbrev pub has_children : {m : _} → Row_of-Expr m → Bool
 has_children end_of-Expr = false
 has_children (more_of-Expr e rest) = true
 

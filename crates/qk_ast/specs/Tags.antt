@@ -20,7 +20,7 @@ abbrev pub is_listener : Text → Bool
 is_listener (o ∷ (n ∷ (c ∷ rest))) = (o == 111) && (n == 110) && is_capital c && letters_and_dollar rest
 is_listener _ = false
 
-abbrev small : ℕ → ℕ
+abbrev pub small : ℕ → ℕ
 small c = elim (is_capital c) [ true ↦ c + 32 | false ↦ c ]
 
 -- two listeners are of one event where their names are the same in small letters

@@ -1,12 +1,12 @@
 mod Texts
-mod Framed
+pub mod Framed
 mod Follow
 mod Reached
-mod Counted
+pub mod Counted
 mod Atoms
 mod Lists
 mod Forms
-mod Patterns
+pub mod Patterns
 mod Elements
 mod Statements
 mod Blocks
