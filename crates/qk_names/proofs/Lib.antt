@@ -1,0 +1,5 @@
+mod Numbered
+mod Counting
+mod Rising
+mod Nested
+mod Insides

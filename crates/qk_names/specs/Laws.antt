@@ -1,0 +1,46 @@
+-- The laws of arrows and names.
+use Rattle.std.specs.Prelude.{◌≡◌, ℕ, ◌+◌, ◌<◌, Bool, List, [], ◌∷◌, ◌++◌, length, flat_map, All, Contains}
+use Rattle.qk_ast.specs.declared.Form.{Form}
+use Rattle.qk_ast.specs.declared.Module.{Module}
+use Rattle.qk_ast.specs.declared.Item.{Item}
+use Rattle.qk_ast.specs.Derives.{Derives}
+use Rattle.qk_ast.specs.Arrows.{Found_arrow, item_arrows, of_kind, nth_arrow, arrow_at, number_at}
+use Rattle.qk_ast.specs.Uses.{captures_of}
+use Rattle.qk_names.specs.Inside.{inside, with_inside}
+
+-- ---- places
+
+-- the arrows of a module that a text derives have the places 0, 1, 2 .. in text order
+abbrev pub ArrowsAreNumbered : Type 0
+ArrowsAreNumbered = (form : Form) (bytes : List ℕ) (m : Module) → Derives form bytes m → (n : ℕ) → n < length (item_arrows m.items) → (nth_arrow (item_arrows m.items) n).place ≡ n
+
+-- each arrow of such a module is found at its place
+abbrev pub ArrowsAreFound : Type 0
+ArrowsAreFound = (form : Form) (bytes : List ℕ) (m : Module) → Derives form bytes m → (a : Found_arrow) → Contains (item_arrows m.items) a → arrow_at (item_arrows m.items) a.place ≡ a
+
+-- the arrows of one kind are found at their places, and numbered by them from 1
+abbrev pub KindsAreNumbered : Type 0
+KindsAreNumbered = (form : Form) (bytes : List ℕ) (m : Module) → Derives form bytes m → (dollar : Bool) (n : ℕ) → n < length (of_kind dollar (item_arrows m.items))
+    → (arrow_at (of_kind dollar (item_arrows m.items)) (nth_arrow (of_kind dollar (item_arrows m.items)) n).place ≡ nth_arrow (of_kind dollar (item_arrows m.items)) n)
+    × (number_at (of_kind dollar (item_arrows m.items)) (nth_arrow (of_kind dollar (item_arrows m.items)) n).place ≡ n + 1)
+
+-- ---- arrows inside arrows
+
+-- the arrows inside an arrow follow it at once
+abbrev pub InsideFollows : Type 0
+InsideFollows = (items : List Item) (front : List Found_arrow) (a : Found_arrow) (rest : List Found_arrow) → item_arrows items ≡ front ++ a ∷ rest
+    → (behind : List Found_arrow) × (rest ≡ inside a ++ behind)
+
+-- what stands inside an arrow of the items is an arrow of the items
+abbrev pub InsideIsListed : Type 0
+InsideIsListed = (items : List Item) (a b : Found_arrow) → Contains (item_arrows items) a → Contains (inside a) b → Contains (item_arrows items) b
+
+-- The arrows of the items are those that stand in no other, each with those inside it; and the former capture nothing.
+pub record Outermost (items : List Item) : Type 0 where
+  pub outers : List Found_arrow
+  pub whole : flat_map with_inside outers ≡ item_arrows items
+  pub around_none : All (λ a. a.scope ≡ []) outers
+  pub captured_none : All (λ a. captures_of a ≡ []) outers
+
+abbrev pub OutermostCaptureNothing : Type 0
+OutermostCaptureNothing = (items : List Item) → Outermost items

@@ -1,0 +1,35 @@
+//! Laws of the arrows and names of modules, and of applications that keep the rules. Each is the contract of a function
+//! that does nothing.
+#![tactic(auto)]
+
+ghost use Rattle.qk_names.specs.Laws.{ArrowsAreFound, ArrowsAreNumbered, InsideFollows, InsideIsListed, KindsAreNumbered, OutermostCaptureNothing};
+
+/// The arrows of a module that a text derives have the places 0, 1, 2 and so on, in text order.
+pub fn arrows_are_numbered()
+    ensures { ArrowsAreNumbered }
+{}
+
+/// Each arrow of a module that a text derives is found at its place.
+pub fn arrows_are_found()
+    ensures { ArrowsAreFound }
+{}
+
+/// The dollar arrows of such a module are found at their places and numbered by them from 1, and so are the plain ones.
+pub fn kinds_are_numbered()
+    ensures { KindsAreNumbered }
+{}
+
+/// The arrows inside an arrow follow it at once.
+pub fn inside_follows()
+    ensures { InsideFollows }
+{}
+
+/// What stands inside an arrow of a module is an arrow of the module.
+pub fn inside_is_listed()
+    ensures { InsideIsListed }
+{}
+
+/// The arrows of a module are those that stand in no other, each with those inside it; and the former capture nothing.
+pub fn outermost_capture_nothing()
+    ensures { OutermostCaptureNothing }
+{}
