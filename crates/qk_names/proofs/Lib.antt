@@ -1,5 +1,10 @@
+mod Bits
+mod Each
+mod Members
 mod Numbered
 mod Counting
 mod Rising
 mod Nested
 mod Insides
+mod Literals
+mod Components

@@ -1,10 +1,11 @@
 -- Arrows that are followed by those inside them.
 use Rattle.std.proofs.Common.{◌≡◌, refl, sym, ◌∙◌, ap, subst, arith}
-use Rattle.std.proofs.lemmas.List.{append_assoc, append-nil, length-append, get_or-append-add, get_or_append_left}
+use Rattle.std.proofs.lemmas.List.{append_assoc, append-nil}
 use Rattle.std.specs.Prelude.{ℕ, zero, suc, ◌+◌, ◌<◌, List, [], ◌∷◌, ◌++◌, length, flat_map, All, Contains, slice_index_or, ⊤}
 use Rattle.qk_ast.specs.Texts.{Text}
 use Rattle.qk_ast.specs.Arrows.{Found_arrow}
 use Rattle.qk_names.specs.Inside.{inside, with_inside}
+use Rattle.qk_names.proofs.Members.{contains_later, contains_front}
 
 -- the list begins with these
 pub record Begins (front xs : List Found_arrow) : Type 0 where
@@ -77,12 +78,6 @@ follows xs front a rest h e = at front (subst Nests e h)
     at : (front : List Found_arrow) → Nests (front ++ a ∷ rest) → (behind : List Found_arrow) × (rest ≡ inside a ++ behind)
     at [] h = (h.0.behind, h.0.whole)
     at (b ∷ front) h = at front h.1
-
-contains_later : (a b : Found_arrow) (xs : List Found_arrow) → Contains xs b → Contains (a ∷ xs) b
-contains_later a b xs (k, l, e) = (suc k, omega (arith, l), e)
-
-contains_front : (xs ys : List Found_arrow) (b : Found_arrow) → Contains xs b → Contains (xs ++ ys) b
-contains_front xs ys b (k, l, e) = let n = length-append xs ys in (k, omega (arith, l, n), get_or_append_left xs ys b k l ∙ e)
 
 pub listed : (xs : List Found_arrow) (a b : Found_arrow) → Nests xs → Contains xs a → Contains (inside a) b → Contains xs b
 listed [] a b h (k, l, e) c = absurd (omega (arith, l))

@@ -20,11 +20,12 @@ rises (a ∷ xs) n m h = let e = h.0 in (omega (arith, e), from_lower xs (n + 1)
 
 kept : (dollar : Bool) (xs : List Found_arrow) (n : ℕ) → Rises xs n → Rises (of_kind dollar xs) n
 kept dollar [] n h = tt
-kept dollar (a ∷ xs) n h = by (same_kind dollar (is_dollar a))
+kept dollar (a ∷ xs) n h = let e = h.0 in
+    either (same_kind dollar (is_dollar a)) (e, kept dollar xs (a.place + 1) h.1) (from_lower (of_kind dollar xs) (a.place + 1) n (omega (arith, e)) (kept dollar xs (a.place + 1) h.1))
   where
-    by : (b : Bool) → Rises (elim b [ true ↦ a ∷ of_kind dollar xs | false ↦ of_kind dollar xs ]) n
-    by true = (h.0, kept dollar xs (a.place + 1) h.1)
-    by false = let e = h.0 in from_lower (of_kind dollar xs) (a.place + 1) n (omega (arith, e)) (kept dollar xs (a.place + 1) h.1)
+    either : (b : Bool) → Rises (a ∷ of_kind dollar xs) n → Rises (of_kind dollar xs) n → Rises (elim b [ true ↦ a ∷ of_kind dollar xs | false ↦ of_kind dollar xs ]) n
+    either true g k = g
+    either false g k = k
 
 above : (xs : List Found_arrow) (n k : ℕ) → Rises xs n → k < length xs → n ≤ (nth_arrow xs k).place
 above [] n k h l = absurd (omega (arith, l))

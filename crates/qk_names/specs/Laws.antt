@@ -1,11 +1,15 @@
 -- The laws of arrows and names.
-use Rattle.std.specs.Prelude.{◌≡◌, ℕ, ◌+◌, ◌<◌, Bool, List, [], ◌∷◌, ◌++◌, length, flat_map, All, Contains}
+use Rattle.std.specs.Prelude.{◌≡◌, ℕ, ◌+◌, ◌<◌, ◌≤◌, Bool, true, Option, Some, List, [], ◌∷◌, ◌++◌, length, flat_map, All, Contains}
 use Rattle.qk_ast.specs.declared.Form.{Form}
 use Rattle.qk_ast.specs.declared.Module.{Module}
 use Rattle.qk_ast.specs.declared.Item.{Item}
 use Rattle.qk_ast.specs.Derives.{Derives}
-use Rattle.qk_ast.specs.Arrows.{Found_arrow, item_arrows, of_kind, nth_arrow, arrow_at, number_at}
-use Rattle.qk_ast.specs.Uses.{captures_of}
+use Rattle.qk_ast.specs.Arrows.{Mark, Unmarked, Marked, Found_arrow, arrows, item_arrows, of_kind, nth_arrow, arrow_at, number_at}
+use Rattle.qk_ast.specs.Uses.{uses, captures_of}
+use Rattle.qk_ast.specs.declared.Expr.{Expr}
+use Rattle.qk_ast.specs.Texts.{Text}
+use Rattle.qk_ast.specs.Placing.{Root_kind, A_component, kind_of_value, is_data, all_placing_breaches}
+use Rattle.qk_names.specs.Handed.{handed}
 use Rattle.qk_names.specs.Inside.{inside, with_inside}
 
 -- ---- places
@@ -44,3 +48,26 @@ pub record Outermost (items : List Item) : Type 0 where
 
 abbrev pub OutermostCaptureNothing : Type 0
 OutermostCaptureNothing = (items : List Item) → Outermost items
+
+-- ---- items
+
+-- The expression is one call with one arrow: a dollar site of the items, with one parameter at most.
+pub record DollarSite (items : List Item) (e : Expr) : Type 0 where
+  pub arrow : Found_arrow
+  pub handed' : handed e ≡ Some arrow
+  pub marked : arrow.mark ≡ Marked
+  pub around_none : arrow.scope ≡ []
+  pub parameters : length arrow.params ≤ 1
+  -- the arrows of the expression are this one and those inside it
+  pub whole : arrows e Unmarked [] ≡ with_inside arrow
+  pub listed : Contains (item_arrows items) arrow
+  pub among_dollars : Contains (of_kind true (item_arrows items)) arrow
+
+-- where no rule of places is broken, a component of the root is made of a dollar site
+abbrev pub ComponentIsDollarSite : Type 0
+ComponentIsDollarSite = (file : Text) (roots : Text → Root_kind) (m : Module) → all_placing_breaches file roots m ≡ []
+    → (i : Item) → Contains m.items i → kind_of_value i.init ≡ A_component → DollarSite m.items i.init
+
+-- fixed data has no arrows and uses no names
+abbrev pub DataStands : Type 0
+DataStands = (e : Expr) → is_data e ≡ true → ((mark : Mark) (scope : List Text) → arrows e mark scope ≡ []) × (uses e ≡ [])

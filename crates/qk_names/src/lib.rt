@@ -2,7 +2,7 @@
 //! that does nothing.
 #![tactic(auto)]
 
-ghost use Rattle.qk_names.specs.Laws.{ArrowsAreFound, ArrowsAreNumbered, InsideFollows, InsideIsListed, KindsAreNumbered, OutermostCaptureNothing};
+ghost use Rattle.qk_names.specs.Laws.{ArrowsAreFound, ArrowsAreNumbered, ComponentIsDollarSite, DataStands, InsideFollows, InsideIsListed, KindsAreNumbered, OutermostCaptureNothing};
 
 /// The arrows of a module that a text derives have the places 0, 1, 2 and so on, in text order.
 pub fn arrows_are_numbered()
@@ -32,4 +32,15 @@ pub fn inside_is_listed()
 /// The arrows of a module are those that stand in no other, each with those inside it; and the former capture nothing.
 pub fn outermost_capture_nothing()
     ensures { OutermostCaptureNothing }
+{}
+
+/// Where no rule of places is broken, each component of the root is made by one call with one arrow, which is a dollar
+/// arrow of the module.
+pub fn component_is_dollar_site()
+    ensures { ComponentIsDollarSite }
+{}
+
+/// Fixed data has no arrows and uses no names.
+pub fn data_stands()
+    ensures { DataStands }
 {}
