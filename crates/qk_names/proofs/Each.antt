@@ -42,11 +42,11 @@ holds_behind : {X : Type 0} (P : X → Type 0) (xs ys : List X) → Holds P (xs 
 holds_behind P [] ys h = h
 holds_behind P (x ∷ xs) ys h = holds_behind P xs ys h.1
 
-pub front : {X : Type 0} {P : X → Type 0} {xs ys : List X} → Each P (xs ++ ys) → Each P xs
-front {X} {P} {xs} {ys} h = record { each = holds_front P xs ys h.each }
+pub front : {X : Type 0} {P : X → Type 0} (xs ys : List X) → Each P (xs ++ ys) → Each P xs
+front {X} {P} xs ys h = record { each = holds_front P xs ys h.each }
 
-pub behind : {X : Type 0} {P : X → Type 0} {xs ys : List X} → Each P (xs ++ ys) → Each P ys
-behind {X} {P} {xs} {ys} h = record { each = holds_behind P xs ys h.each }
+pub behind : {X : Type 0} {P : X → Type 0} (xs ys : List X) → Each P (xs ++ ys) → Each P ys
+behind {X} {P} xs ys h = record { each = holds_behind P xs ys h.each }
 
 holds_then : {X : Type 0} (P Q : X → Type 0) → ((x : X) → P x → Q x) → (xs : List X) → Holds P xs → Holds Q xs
 holds_then P Q f [] h = tt

@@ -20,7 +20,7 @@ mutual
   no_arrows (Expr.Bool b) h mark scope = refl
   no_arrows (Expr.Int n) h mark scope = refl
   no_arrows (Expr.Text t) h mark scope = refl
-  no_arrows (Expr.Unary' un.Neg _ (more_of-Expr (Expr.Int n) _)) h mark scope = refl
+  no_arrows (Expr.Unary' un.Neg _ (more_of-Expr (Expr.Int n) end_of-Expr)) h mark scope = refl
   no_arrows (Expr.List' _ xs) h mark scope = all_no_arrows xs h Unmarked scope
   no_arrows (Expr.Record' _ xs) h mark scope = fields_no_arrows xs h scope
   no_arrows x h mark scope = absurd (false≢true h)
@@ -42,7 +42,7 @@ mutual
   no_uses (Expr.Bool b) h = refl
   no_uses (Expr.Int n) h = refl
   no_uses (Expr.Text t) h = refl
-  no_uses (Expr.Unary' un.Neg _ (more_of-Expr (Expr.Int n) _)) h = refl
+  no_uses (Expr.Unary' un.Neg _ (more_of-Expr (Expr.Int n) end_of-Expr)) h = refl
   no_uses (Expr.List' _ xs) h = all_no_uses xs h
   no_uses (Expr.Record' _ xs) h = fields_no_uses xs h
   no_uses x h = absurd (false≢true h)
