@@ -8,3 +8,5 @@ mod Nested
 mod Insides
 mod Literals
 mod Components
+mod Untaken
+mod Tasks

@@ -1,12 +1,15 @@
 -- The laws of arrows and names.
-use Rattle.std.specs.Prelude.{◌≡◌, ℕ, ◌+◌, ◌<◌, ◌≤◌, Bool, true, Option, Some, List, [], ◌∷◌, ◌++◌, length, flat_map, All, Contains}
+use Rattle.std.specs.Prelude.{◌≡◌, ◌⊎◌, ℕ, ◌+◌, ◌<◌, ◌≤◌, Bool, true, Option, Some, List, [], ◌∷◌, ◌++◌, length, flat_map, All, Contains, IsTrue}
 use Rattle.qk_ast.specs.declared.Form.{Form}
 use Rattle.qk_ast.specs.declared.Module.{Module}
 use Rattle.qk_ast.specs.declared.Item.{Item}
 use Rattle.qk_ast.specs.Derives.{Derives}
-use Rattle.qk_ast.specs.Arrows.{Mark, Unmarked, Marked, Found_arrow, arrows, item_arrows, of_kind, nth_arrow, arrow_at, number_at}
+use Rattle.qk_ast.specs.Arrows.{Mark, Unmarked, Marked, Tasked, Found_arrow, arrows, item_arrows, of_kind, nth_arrow, arrow_at, number_at}
 use Rattle.qk_ast.specs.Uses.{uses, captures_of}
 use Rattle.qk_ast.specs.declared.Expr.{Expr}
+use Rattle.qk_ast.specs.declared.Pattern.{Pattern}
+use Rattle.qk_ast.specs.Scopes.{is_track}
+use Rattle.qk_ast.specs.Naming.{all_naming_breaches}
 use Rattle.qk_ast.specs.Texts.{Text}
 use Rattle.qk_ast.specs.Placing.{Root_kind, A_component, kind_of_value, is_data, all_placing_breaches}
 use Rattle.qk_names.specs.Handed.{handed}
@@ -71,3 +74,14 @@ ComponentIsDollarSite = (file : Text) (roots : Text → Root_kind) (m : Module) 
 -- fixed data has no arrows and uses no names
 abbrev pub DataStands : Type 0
 DataStands = (e : Expr) → is_data e ≡ true → ((mark : Mark) (scope : List Text) → arrows e mark scope ≡ []) × (uses e ≡ [])
+
+-- ---- tasks
+
+-- the parameters of a task: none, or `{ track }`
+abbrev pub IsTask : List Pattern → Type 0
+IsTask params = (params ≡ []) ⊎ IsTrue (is_track params)
+
+-- where no rule of names and no rule of places is broken, each task has such parameters
+abbrev pub TasksTakeTrack : Type 0
+TasksTakeTrack = (form : Form) (file : Text) (roots : Text → Root_kind) (m : Module) → all_naming_breaches form file m ≡ [] → all_placing_breaches file roots m ≡ []
+    → All (λ a. a.mark ≡ Tasked → IsTask a.params) (item_arrows m.items)

@@ -2,7 +2,7 @@
 //! that does nothing.
 #![tactic(auto)]
 
-ghost use Rattle.qk_names.specs.Laws.{ArrowsAreFound, ArrowsAreNumbered, ComponentIsDollarSite, DataStands, InsideFollows, InsideIsListed, KindsAreNumbered, OutermostCaptureNothing};
+ghost use Rattle.qk_names.specs.Laws.{ArrowsAreFound, ArrowsAreNumbered, ComponentIsDollarSite, DataStands, InsideFollows, InsideIsListed, KindsAreNumbered, OutermostCaptureNothing, TasksTakeTrack};
 
 /// The arrows of a module that a text derives have the places 0, 1, 2 and so on, in text order.
 pub fn arrows_are_numbered()
@@ -43,4 +43,9 @@ pub fn component_is_dollar_site()
 /// Fixed data has no arrows and uses no names.
 pub fn data_stands()
     ensures { DataStands }
+{}
+
+/// Where no rule of names and no rule of places is broken, each task has no parameter or `{ track }`.
+pub fn tasks_take_track()
+    ensures { TasksTakeTrack }
 {}
