@@ -10,3 +10,5 @@ mod Literals
 mod Components
 mod Untaken
 mod Tasks
+mod Plain
+mod Listed
