@@ -12,3 +12,8 @@ mod Untaken
 mod Tasks
 mod Plain
 mod Listed
+mod Known
+mod UsesKnown
+mod Covered
+mod Captured
+mod Captures

@@ -34,7 +34,7 @@ each_other names (x ∷ xs) h = others_step names x (others_than names xs) (is_l
 
 -- ---- declared names
 
-abbrev found_or : Bool → Kind → Option Kind → Option Kind
+abbrev pub found_or : Bool → Kind → Option Kind → Option Kind
 found_or b kind rest = elim b [ true ↦ Some kind | false ↦ rest ]
 
 passed : (b c : Bool) (kind : Kind) (rest : Option Kind) → or_listed b c ≡ false → (c ≡ false → rest ≡ None) → found_or b kind rest ≡ None

@@ -57,7 +57,7 @@ abbrev is_tasked : Mark → Bool
 is_tasked Tasked = true
 is_tasked _ = false
 
-unmarked : Unmarked ≡ Tasked → ⊥
+pub unmarked : Unmarked ≡ Tasked → ⊥
 unmarked e = false≢true (ap is_tasked e)
 
 marked : Marked ≡ Tasked → ⊥
@@ -67,7 +67,7 @@ either_mark : (b : Bool) → (elim b [ true ↦ Marked | false ↦ Unmarked ]) �
 either_mark true e = marked e
 either_mark false e = unmarked e
 
-attribute_unmarked : (name : Text) → attribute_mark name ≡ Tasked → ⊥
+pub attribute_unmarked : (name : Text) → attribute_mark name ≡ Tasked → ⊥
 attribute_unmarked name = either_mark _
 
 name_unmarked : (name : Text) → same_text name (codes "useTask$") ≡ false → name_mark name ≡ Tasked → ⊥

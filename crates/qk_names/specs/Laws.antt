@@ -1,15 +1,17 @@
 -- The laws of arrows and names.
-use Rattle.std.specs.Prelude.{◌≡◌, ◌⊎◌, ℕ, ◌+◌, ◌<◌, ◌≤◌, Bool, true, Option, Some, List, [], ◌∷◌, ◌++◌, length, flat_map, All, Contains, IsTrue}
+use Rattle.std.specs.Prelude.{◌≡◌, ◌⊎◌, ℕ, ◌+◌, ◌<◌, ◌≤◌, Bool, true, ◌||◌, Option, Some, List, [], ◌∷◌, ◌++◌, length, flat_map, All, Contains, IsTrue}
 use Rattle.qk_ast.specs.declared.Form.{Form}
 use Rattle.qk_ast.specs.declared.Module.{Module}
 use Rattle.qk_ast.specs.declared.Item.{Item}
 use Rattle.qk_ast.specs.Derives.{Derives}
 use Rattle.qk_ast.specs.Arrows.{Mark, Unmarked, Marked, Tasked, Found_arrow, arrows, item_arrows, of_kind, nth_arrow, arrow_at, number_at}
-use Rattle.qk_ast.specs.Uses.{uses, captures_of}
+use Rattle.qk_ast.specs.Uses.{uses, free_of, captures_of}
 use Rattle.qk_ast.specs.declared.Expr.{Expr}
 use Rattle.qk_ast.specs.declared.Pattern.{Pattern}
 use Rattle.qk_ast.specs.Scopes.{is_track}
-use Rattle.qk_ast.specs.Naming.{all_naming_breaches}
+use Rattle.qk_ast.specs.Naming.{all_naming_breaches, root_names}
+use Rattle.qk_ast.specs.declared.Form.TheVariants.{Source}
+use Rattle.qk_ast.specs.Names.{is_listed}
 use Rattle.qk_ast.specs.Texts.{Text}
 use Rattle.qk_ast.specs.Placing.{Root_kind, A_component, kind_of_value, is_data, all_placing_breaches}
 use Rattle.qk_names.specs.Handed.{handed}
@@ -85,3 +87,15 @@ IsTask params = (params ≡ []) ⊎ IsTrue (is_track params)
 abbrev pub TasksTakeTrack : Type 0
 TasksTakeTrack = (form : Form) (file : Text) (roots : Text → Root_kind) (m : Module) → all_naming_breaches form file m ≡ [] → all_placing_breaches file roots m ≡ []
     → All (λ a. a.mark ≡ Tasked → IsTask a.params) (item_arrows m.items)
+
+-- ---- names
+
+-- in a source, where no rule of names and no rule of places is broken, each free name of an arrow is captured, or a name of the root
+abbrev pub NamesAreCaptured : Type 0
+NamesAreCaptured = (file : Text) (roots : Text → Root_kind) (bytes : List ℕ) (m : Module) → Derives Source bytes m → all_naming_breaches Source file m ≡ [] → all_placing_breaches file roots m ≡ []
+    → All (λ a. All (λ name. IsTrue (is_listed name (captures_of a) || is_listed name (root_names Source file m))) (free_of a)) (item_arrows m.items)
+
+-- and each name that an item uses and doesn't declare is a name of the root
+abbrev pub ItemsUseRootNames : Type 0
+ItemsUseRootNames = (file : Text) (roots : Text → Root_kind) (bytes : List ℕ) (m : Module) → Derives Source bytes m → all_naming_breaches Source file m ≡ [] → all_placing_breaches file roots m ≡ []
+    → All (λ i. All (λ name. IsTrue (is_listed name (root_names Source file m))) (uses i.init)) m.items

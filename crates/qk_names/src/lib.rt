@@ -2,7 +2,7 @@
 //! that does nothing.
 #![tactic(auto)]
 
-ghost use Rattle.qk_names.specs.Laws.{ArrowsAreFound, ArrowsAreNumbered, ComponentIsDollarSite, DataStands, InsideFollows, InsideIsListed, KindsAreNumbered, OutermostCaptureNothing, TasksTakeTrack};
+ghost use Rattle.qk_names.specs.Laws.{ArrowsAreFound, ArrowsAreNumbered, ComponentIsDollarSite, DataStands, InsideFollows, InsideIsListed, ItemsUseRootNames, KindsAreNumbered, NamesAreCaptured, OutermostCaptureNothing, TasksTakeTrack};
 
 /// The arrows of a module that a text derives have the places 0, 1, 2 and so on, in text order.
 pub fn arrows_are_numbered()
@@ -48,4 +48,16 @@ pub fn data_stands()
 /// Where no rule of names and no rule of places is broken, each task has no parameter or `{ track }`.
 pub fn tasks_take_track()
     ensures { TasksTakeTrack }
+{}
+
+/// In a source, where no rule of names and no rule of places is broken, each free name of an arrow is captured, or a name
+/// of the root.
+pub fn names_are_captured()
+    ensures { NamesAreCaptured }
+{}
+
+/// In a source, where no rule of names and no rule of places is broken, each name that an item uses and doesn't declare
+/// is a name of the root.
+pub fn items_use_root_names()
+    ensures { ItemsUseRootNames }
 {}

@@ -1,5 +1,3 @@
-use Rattle.qk_names.proofs.Listed.{once, kind_both}
-use Rattle.qk_names.proofs.Plain.{sources_are_plain}
 use Rattle.qk_names.proofs.Literals.{no_arrows, no_uses}
 use Rattle.qk_names.proofs.data_stands.Goals as goal
 
