@@ -81,7 +81,7 @@ module _ (roots : List Text) where
   covers_for name outer scopes scope f t h u = by (same_text name t) refl h u
     where
       by : (b : Bool) → same_text name t ≡ b → if_kind (found_or b Constant None) (λ k. or_listed b false) (seen roots t outer) ≡ true
-          → if_kind (found_or b Constant None) (λ k. true) (untracked t scopes) ≡ true → known (name ∷ scope) t ≡ true
+          → if_kind (found_or b Constant None) (λ k. not (is_tracker k)) (untracked t scopes) ≡ true → known (name ∷ scope) t ≡ true
       by true e h u = listed_known (name ∷ scope) t (ap (λ b. or_listed b (is_listed t scope)) e)
       by false e h u = known_in scope (name ∷ scope) t (or_behind (same_text name t) (is_listed t scope)) (f t h u)
 
@@ -89,7 +89,7 @@ module _ (roots : List Text) where
   covers_list name outer scopes scope f t h u = by (same_text name t) h u
     where
       by : (b : Bool) → if_kind (found_or b Constant None) (λ k. false) (seen roots t outer) ≡ true
-          → if_kind (found_or b Constant None) (λ k. true) (untracked t scopes) ≡ true → known scope t ≡ true
+          → if_kind (found_or b Constant None) (λ k. not (is_tracker k)) (untracked t scopes) ≡ true → known scope t ≡ true
       by true h u = absurd (false≢true h)
       by false h u = f t h u
 
