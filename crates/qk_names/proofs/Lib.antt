@@ -17,3 +17,5 @@ mod UsesKnown
 mod Covered
 mod Captured
 mod Captures
+mod PlainArrows
+mod Items

@@ -11,9 +11,9 @@ use Rattle.qk_ast.specs.declared.Pattern.{Pattern}
 use Rattle.qk_ast.specs.Scopes.{is_track}
 use Rattle.qk_ast.specs.Naming.{all_naming_breaches, root_names}
 use Rattle.qk_ast.specs.declared.Form.TheVariants.{Source}
-use Rattle.qk_ast.specs.Names.{is_listed}
+use Rattle.qk_ast.specs.Names.{is_listed, scope_names}
 use Rattle.qk_ast.specs.Texts.{Text}
-use Rattle.qk_ast.specs.Placing.{Root_kind, A_component, kind_of_value, is_data, all_placing_breaches}
+use Rattle.qk_ast.specs.Placing.{Root_kind, A_component, A_context, kind_of_value, is_data, is_item, is_app, most_sites, all_placing_breaches}
 use Rattle.qk_names.specs.Handed.{handed}
 use Rattle.qk_names.specs.Inside.{inside, with_inside}
 
@@ -73,6 +73,19 @@ abbrev pub ComponentIsDollarSite : Type 0
 ComponentIsDollarSite = (file : Text) (roots : Text → Root_kind) (m : Module) → all_placing_breaches file roots m ≡ []
     → (i : Item) → Contains m.items i → kind_of_value i.init ≡ A_component → DollarSite m.items i.init
 
+-- there an item is a component, a context id, an arrow or fixed data, and `App` of the module `root` is a component
+abbrev pub ItemsHaveForms : Type 0
+ItemsHaveForms = (file : Text) (roots : Text → Root_kind) (m : Module) → all_placing_breaches file roots m ≡ []
+    → (i : Item) → Contains m.items i → IsTrue (is_item i.init) × (IsTrue (is_app file i.name) → kind_of_value i.init ≡ A_component)
+
+-- there a module has 4,096 dollar sites at most
+abbrev pub SitesAreFew : Type 0
+SitesAreFew = (file : Text) (roots : Text → Root_kind) (m : Module) → all_placing_breaches file roots m ≡ [] → length (of_kind true (item_arrows m.items)) ≤ most_sites
+
+-- a context id has no arrows
+abbrev pub ContextsHaveNoArrows : Type 0
+ContextsHaveNoArrows = (e : Expr) → kind_of_value e ≡ A_context → (mark : Mark) (scope : List Text) → arrows e mark scope ≡ []
+
 -- fixed data has no arrows and uses no names
 abbrev pub DataStands : Type 0
 DataStands = (e : Expr) → is_data e ≡ true → ((mark : Mark) (scope : List Text) → arrows e mark scope ≡ []) × (uses e ≡ [])
@@ -89,6 +102,10 @@ TasksTakeTrack = (form : Form) (file : Text) (roots : Text → Root_kind) (m : M
     → All (λ a. a.mark ≡ Tasked → IsTask a.params) (item_arrows m.items)
 
 -- ---- names
+
+-- the arrows of a source have no lexical scope
+abbrev pub SourcesHaveNoScopes : Type 0
+SourcesHaveNoScopes = (bytes : List ℕ) (m : Module) → Derives Source bytes m → All (λ a. scope_names a.body ≡ []) (item_arrows m.items)
 
 -- in a source, where no rule of names and no rule of places is broken, each free name of an arrow is captured, or a name of the root
 abbrev pub NamesAreCaptured : Type 0

@@ -2,7 +2,7 @@
 //! that does nothing.
 #![tactic(auto)]
 
-ghost use Rattle.qk_names.specs.Laws.{ArrowsAreFound, ArrowsAreNumbered, ComponentIsDollarSite, DataStands, InsideFollows, InsideIsListed, ItemsUseRootNames, KindsAreNumbered, NamesAreCaptured, OutermostCaptureNothing, TasksTakeTrack};
+ghost use Rattle.qk_names.specs.Laws.{ArrowsAreFound, ArrowsAreNumbered, ComponentIsDollarSite, ContextsHaveNoArrows, DataStands, InsideFollows, InsideIsListed, ItemsHaveForms, ItemsUseRootNames, KindsAreNumbered, NamesAreCaptured, OutermostCaptureNothing, SitesAreFew, SourcesHaveNoScopes, TasksTakeTrack};
 
 /// The arrows of a module that a text derives have the places 0, 1, 2 and so on, in text order.
 pub fn arrows_are_numbered()
@@ -40,6 +40,22 @@ pub fn component_is_dollar_site()
     ensures { ComponentIsDollarSite }
 {}
 
+/// Where no rule of places is broken, an item is a component, a context id, an arrow or fixed data, and `App` of the
+/// module `root` is a component.
+pub fn items_have_forms()
+    ensures { ItemsHaveForms }
+{}
+
+/// Where no rule of places is broken, a module has 4,096 dollar sites at most.
+pub fn sites_are_few()
+    ensures { SitesAreFew }
+{}
+
+/// A context id has no arrows.
+pub fn contexts_have_no_arrows()
+    ensures { ContextsHaveNoArrows }
+{}
+
 /// Fixed data has no arrows and uses no names.
 pub fn data_stands()
     ensures { DataStands }
@@ -48,6 +64,11 @@ pub fn data_stands()
 /// Where no rule of names and no rule of places is broken, each task has no parameter or `{ track }`.
 pub fn tasks_take_track()
     ensures { TasksTakeTrack }
+{}
+
+/// The arrows of a source have no lexical scope.
+pub fn sources_have_no_scopes()
+    ensures { SourcesHaveNoScopes }
 {}
 
 /// In a source, where no rule of names and no rule of places is broken, each free name of an arrow is captured, or a name
