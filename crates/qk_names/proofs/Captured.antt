@@ -1,5 +1,5 @@
 -- Where no rule of names and places is broken, each free name of an arrow is declared around it, or is a name of the root.
-use Rattle.std.proofs.Common.{◌≡◌, refl, sym, ◌∙◌, ap, subst}
+use Rattle.std.proofs.Common.{◌≡◌}
 use Rattle.std.specs.Prelude.{ℕ, Bool, true, false, ◌&&◌, List, [], ◌∷◌, ◌++◌, Option, Some, None}
 use Rattle.qk_ast.specs.declared.Form.{Form}
 use Rattle.qk_ast.specs.declared.Item.{Item}
@@ -19,7 +19,7 @@ use Rattle.qk_ast.specs.Mentions.{Uses, declared_after, mentions, all_mentions, 
 use Rattle.qk_ast.specs.Spots.{Named, Standing, Anywhere, Hook_statement, Root_value, spots, all_spots, field_spots, operand_spots, link_spots, jsx_spots, attribute_spots, statement_spots, block_spots, body_spots, item_spots, called, argument_of, standing_mark, is_component_arrow, const_standing, where_hooks, lets_hooks_follow}
 use Rattle.qk_ast.specs.Placing.{Root_kind}
 use Rattle.qk_names.specs.Laws.{IsTask}
-use Rattle.qk_names.proofs.Each.{Each, none, one, head, tail, front, behind, each_then, ◌∷'◌, ◌▹◌}
+use Rattle.qk_names.proofs.Each.{Each, none, head, tail, front, behind, each_then, ◌∷'◌, ◌▹◌}
 use Rattle.qk_names.proofs.Untaken.{Clean, names_clean, name_clean, block_clean, body_clean}
 use Rattle.qk_names.proofs.Tasks.{unmarked, attribute_unmarked}
 use Rattle.qk_names.proofs.Plain.{Plain, Plain_all, Plain_fields, Plain_operands, Plain_links, Plain_jsx, Plain_statement, Plain_block, Plain_body}

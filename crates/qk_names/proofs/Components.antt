@@ -1,7 +1,7 @@
 -- Where no rule of places is broken, a component of the root is made of one marked arrow.
 use Rattle.std.proofs.Common.{◌≡◌, refl, sym, ◌∙◌, ap, subst, arith, append-nil}
 use Rattle.std.proofs.lemmas.Bool.{false≢true, not-false}
-use Rattle.std.specs.Prelude.{ℕ, zero, suc, ◌≤◌, ◌<◌, nat_le, Bool, true, false, not, ◌&&◌, ◌||◌, List, [], ◌∷◌, ◌++◌, length, Option, Some, None, Contains, codes, flat_map}
+use Rattle.std.specs.Prelude.{zero, suc, ◌≤◌, nat_le, Bool, true, false, not, ◌&&◌, ◌||◌, List, [], ◌∷◌, ◌++◌, length, Some, Contains, codes, flat_map}
 use Rattle.qk_ast.specs.declared.Item.{Item}
 use Rattle.qk_ast.specs.declared.Module.{Module}
 use Rattle.qk_ast.specs.declared.RuleKind.{RuleKind}
@@ -11,9 +11,9 @@ use Rattle.qk_ast.specs.declared.Pattern.{Pattern}
 use Rattle.qk_ast.specs.declared.RuleKind.TheVariants.{DollarArgument}
 use Rattle.qk_ast.specs.Scopes.{Scope}
 use Rattle.qk_ast.specs.Texts.{Text, same_text, is_among}
-use Rattle.qk_ast.specs.Arrows.{Found_arrow, Marked, Unmarked, Mark, arrows, all_arrows, link_arrows, item_arrows, of_kind, call_mark, name_mark}
-use Rattle.qk_ast.specs.Spots.{Spot, Named, Root_value, Standing, Called, With, Not_called, spots, called, item_spots, arguments_of}
-use Rattle.qk_ast.specs.Placing.{Root_kind, A_component, A_context, Else, dollar_names, has_parameters, root_use_breaches, refuse_if, kind_of_value, called_kind, is_one_text, placing_breaches, all_placing_breaches, site_breaches, is_dollar_argument, is_dollar_call_refused, is_misplaced_hook, is_misplaced_context}
+use Rattle.qk_ast.specs.Arrows.{Found_arrow, Marked, Unmarked, Mark, arrows, all_arrows, link_arrows, item_arrows, name_mark}
+use Rattle.qk_ast.specs.Spots.{Root_value, Standing, Called, With, spots, called, item_spots, arguments_of}
+use Rattle.qk_ast.specs.Placing.{Root_kind, A_component, A_context, Else, dollar_names, has_parameters, root_use_breaches, refuse_if, kind_of_value, called_kind, is_one_text, placing_breaches, all_placing_breaches, site_breaches, is_dollar_argument, is_dollar_call_refused}
 use Rattle.qk_names.specs.Inside.{inside, with_inside}
 use Rattle.qk_names.specs.Handed.{handed, handed_in}
 use Rattle.qk_names.specs.Laws.{DollarSite}

@@ -1,5 +1,5 @@
 -- The arrows of what is written are numbered from the number at its begin on.
-use Rattle.std.proofs.Common.{◌≡◌, refl, sym, ◌∙◌, ap, subst, arith}
+use Rattle.std.proofs.Common.{◌≡◌, refl, subst, arith}
 use Rattle.std.specs.Prelude.{ℕ, ◌+◌, Bool, true, false, List, [], ◌∷◌, codes}
 use denote.Hole.Carrier.{hidden, roll}
 use Rattle.qk_ast.specs.declared.Body.TheBlock.{shape-the_row-Expr-0, hidden-the_row-Expr-0, hidden-the_row-Expr-2, hidden-the_row-Stmt-1, hidden-the_row-Field-3, hidden-the_row-Operand-4, hidden-the_row-Link-5, shape-the_row-Arrow-6, hidden-the_row-Arrow-6, shape-the_row-Jsx-7, hidden-the_row-Jsx-7}
@@ -17,12 +17,11 @@ use Rattle.qk_ast.specs.Characters.{Characters}
 use Rattle.qk_ast.specs.Tokens.{Token}
 use Rattle.qk_ast.specs.JsxText.{jsx_text}
 use Rattle.qk_ast.specs.Texts.{Text}
-use Rattle.qk_ast.specs.Grammar.{Word, Free, Taken, Expression, Undefined, Null, Truth, Number, Quoted, Named, Whole, Holed, Bracketed, Listed, Recorded, Markup, Log, Keys, Str, Trunc, Postfix, Prefix, Chain, Choice, Function, Operands, No_operand, Operand, Holes, Last_part, Part_hole, Link, Dot, Index, Call, Links, No_link, Next_link, Arguments, No_argument, Only, Comma, Field, Key, Quoted_key, Short, Fields, No_field, Only_field, Field_comma, Element, Closed, Open, Fragment, Attributes, No_attribute, Set, Set_text, Set_value, Children, No_child, Text_child, Empty_child, Value_child, Element_child, Body, Block_body, Step_body, Step, Plain_step, Assign, Bump, Statement, Const, Scope, Let, Return, Return_step, If, If_else, While, For_of, Break, Continue, Delete, Block, Do, Statements, No_statement, Then, Part, Block_part, Statement_part, Item_line, Module_text}
-use Rattle.qk_ast.specs.Spelling.{◌⨾◌, tokens, arguments_tokens, assign_sign, attributes_tokens, binding_tokens, body_tokens, bump_sign, children_tokens, element_tokens, field_tokens, fields_tokens, holes_tokens, link_tokens, links_tokens, operands_tokens, part_tokens, un_sign, bin_sign, scope_tokens, statement_tokens, statements_tokens, step_tokens, truth_word, word_tokens}
+use Rattle.qk_ast.specs.Grammar.{Word, Free, Taken, Expression, Undefined, Null, Truth, Number, Quoted, Named, Whole, Holed, Bracketed, Listed, Recorded, Markup, Log, Keys, Str, Trunc, Postfix, Prefix, Chain, Choice, Function, Operands, No_operand, Operand, Holes, Last_part, Part_hole, Link, Dot, Index, Call, Links, No_link, Next_link, Arguments, No_argument, Only, Comma, Field, Key, Quoted_key, Short, Fields, No_field, Only_field, Field_comma, Element, Closed, Open, Fragment, Attributes, No_attribute, Set, Set_text, Set_value, Children, No_child, Text_child, Empty_child, Value_child, Element_child, Body, Block_body, Step_body, Step, Plain_step, Assign, Bump, Statement, Const, Scope, Let, Return, Return_step, If, If_else, While, For_of, Break, Continue, Delete, Block, Do, Statements, No_statement, Then, Part, Block_part, Statement_part, Item_line}
+use Rattle.qk_ast.specs.Spelling.{◌⨾◌, tokens, arguments_tokens, assign_sign, attributes_tokens, body_tokens, bump_sign, children_tokens, element_tokens, field_tokens, fields_tokens, holes_tokens, link_tokens, links_tokens, operands_tokens, part_tokens, un_sign, bin_sign, scope_tokens, statement_tokens, statements_tokens, step_tokens, truth_word, word_tokens}
 use Rattle.qk_ast.specs.Tree.{arrow_signs, arrows as signs, tree, operands_tree, holes_tree, link_tree, links_tree, arguments_tree, field_tree, fields_tree, element_tree, attributes_tree, children_tree, body_tree, parameters_tree, step_tree, statement_tree, statements_tree, part_tree, before_children, items_tree}
-use Rattle.qk_ast.specs.Names.{around, declared_in, patterns_names}
-use Rattle.qk_ast.specs.Arrows.{Mark, Unmarked, Found_arrow, arrows, all_arrows, field_arrows, attribute_arrows, operand_arrows, link_arrows, jsx_arrows, statement_arrows, block_arrows, body_arrows, item_arrows, call_mark, attribute_mark, inner_scope}
-use Rattle.qk_reading.proofs.Framed.{framed, operands_framed, holes_framed, link_framed, links_framed, arguments_framed, field_framed, fields_framed, element_framed, attributes_framed, children_framed, body_framed, step_framed, statement_framed, statements_framed, part_framed}
+use Rattle.qk_ast.specs.Arrows.{Mark, Unmarked, arrows, all_arrows, field_arrows, attribute_arrows, operand_arrows, link_arrows, jsx_arrows, statement_arrows, block_arrows, body_arrows, item_arrows, call_mark, inner_scope}
+use Rattle.qk_reading.proofs.Framed.{framed, link_framed, arguments_framed, field_framed, fields_framed, element_framed, attributes_framed, children_framed, step_framed, statement_framed, statements_framed, part_framed}
 use Rattle.qk_reading.proofs.Counted.{counted, sign_uncounted}
 use Rattle.qk_reading.proofs.Patterns.{binding_uncounted, parameters_uncounted}
 use Rattle.qk_names.proofs.Numbered.{Numbered, ◌▹◌, no_arrows, alone, begins, moved}

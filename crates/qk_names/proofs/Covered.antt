@@ -2,14 +2,14 @@
 use Rattle.std.proofs.Common.{◌≡◌, refl, sym, ◌∙◌, ap, subst}
 use Rattle.std.proofs.lemmas.Bool.{false≢true, or_cases, or_left, or_right}
 use mathlib.Core.Logic.{◌⊎◌, inl, inr}
-use Rattle.std.specs.Prelude.{Bool, true, false, not, ◌||◌, List, [], ◌∷◌, ◌++◌, Option, Some, None, IsTrue, codes}
+use Rattle.std.specs.Prelude.{Bool, true, false, not, ◌||◌, List, [], ◌∷◌, ◌++◌, None, codes}
 use Rattle.qk_ast.specs.declared.Pattern.{Pattern}
 use Rattle.qk_ast.specs.declared.Stmt.{Row_of-Stmt}
 use Rattle.qk_ast.specs.declared.Body.{Body}
 use Rattle.qk_ast.specs.Texts.{Text, same_text}
 use Rattle.qk_ast.specs.Names.{is_listed, around, others_than, patterns_names, declared_in, body_names}
 use Rattle.qk_ast.specs.Arrows.{Mark, Unmarked, Marked, Tasked, inner_scope}
-use Rattle.qk_ast.specs.Scopes.{Kind, Constant, Tracker, Declaration, Scope, kind_in, is_track, parameter_kind, parameters, arrow_scope, block_scope, for_scope, declared_as, declarations, declarations_in}
+use Rattle.qk_ast.specs.Scopes.{Kind, Constant, Tracker, Declaration, Scope, kind_in, is_track, parameter_kind, arrow_scope, block_scope, for_scope, declared_as, declarations, declarations_in}
 use Rattle.qk_ast.specs.Spots.{Standing, standing_mark}
 use Rattle.qk_names.specs.Laws.{IsTask}
 use Rattle.qk_names.proofs.Bits.{text_is}

@@ -1,7 +1,7 @@
 -- What holds of each item of a list, and lists of breaches that are empty.
-use Rattle.std.proofs.Common.{◌≡◌, refl, sym, ◌∙◌, ap, subst, arith}
+use Rattle.std.proofs.Common.{◌≡◌, refl, ap, subst, arith}
 use Rattle.std.proofs.lemmas.Bool.{false≢true}
-use Rattle.std.specs.Prelude.{ℕ, zero, suc, ◌<◌, Bool, true, false, List, [], ◌∷◌, ◌++◌, length, flat_map, All, Contains, slice_index_or, ⊤}
+use Rattle.std.specs.Prelude.{zero, suc, Bool, true, false, List, [], ◌∷◌, ◌++◌, flat_map, All, Contains, ⊤}
 
 abbrev pub Holds : {X : Type 0} → (X → Type 0) → List X → Type 0
 Holds P [] = ⊤
@@ -84,7 +84,6 @@ empty_front (x ∷ xs) ys e = no_item e
 pub empty_behind : {X : Type 0} (xs ys : List X) → xs ++ ys ≡ [] → ys ≡ []
 empty_behind [] ys e = e
 empty_behind (x ∷ xs) ys e = no_item e
-
 
 holds_empty : {X B : Type 0} (f : X → List B) (xs : List X) → flat_map f xs ≡ [] → Holds (λ x. f x ≡ []) xs
 holds_empty f [] e = tt

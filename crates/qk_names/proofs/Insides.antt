@@ -1,6 +1,6 @@
 -- The arrows of a tree are followed by those inside them, and the outermost ones have the names around the tree around them.
-use Rattle.std.proofs.Common.{◌≡◌, refl, sym, ◌∙◌, ap, arith}
-use Rattle.std.specs.Prelude.{List, [], ◌∷◌, ◌++◌, All}
+use Rattle.std.proofs.Common.{◌≡◌, refl, ◌∙◌, ap}
+use Rattle.std.specs.Prelude.{List, [], ◌∷◌}
 use Rattle.qk_ast.specs.declared.Item.{Item}
 use Rattle.qk_ast.specs.declared.Expr.{Expr, Row_of-Expr, end_of-Expr, more_of-Expr, Row_of-Field, end_of-Field, more_of-Field, Row_of-Operand, end_of-Operand, more_of-Operand, Row_of-Link, end_of-Link, more_of-Link, more_of-Arrow, more_of-Jsx}
 use Rattle.qk_ast.specs.declared.Stmt.{Stmt, Block' as Statement_block', Row_of-Stmt, end_of-Stmt, more_of-Stmt, None', Some'}
@@ -8,7 +8,7 @@ use Rattle.qk_ast.specs.declared.Link.{Link}
 use Rattle.qk_ast.specs.declared.Jsx.{Jsx, Jsx'}
 use Rattle.qk_ast.specs.declared.Body.{Body, Block' as Body_block'}
 use Rattle.qk_ast.specs.Texts.{Text}
-use Rattle.qk_ast.specs.Names.{around, declared_in, each_once, those_of}
+use Rattle.qk_ast.specs.Names.{each_once, those_of}
 use Rattle.qk_ast.specs.Arrows.{Mark, Unmarked, Found_arrow, arrows, all_arrows, field_arrows, attribute_arrows, operand_arrows, link_arrows, jsx_arrows, statement_arrows, block_arrows, body_arrows, item_arrows, call_mark, attribute_mark, inner_scope}
 use Rattle.qk_ast.specs.Uses.{captures_of, free_of}
 use Rattle.qk_names.specs.Laws.{Outermost}

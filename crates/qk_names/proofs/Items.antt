@@ -1,15 +1,15 @@
 -- What the rules of places ask of items, and how many dollar sites they allow.
 use Rattle.std.proofs.Common.{◌≡◌, refl, sym, ◌∙◌, ap, subst, arith, append-nil}
-use Rattle.std.proofs.lemmas.Bool.{false≢true, not-false, and_parts}
-use Rattle.std.specs.Prelude.{ℕ, zero, suc, ◌≤◌, nat_le, Bool, true, false, not, ◌&&◌, List, [], ◌∷◌, ◌++◌, length, flat_map, Option, Some, None, Contains, IsTrue, codes}
+use Rattle.std.proofs.lemmas.Bool.{false≢true, not-false}
+use Rattle.std.specs.Prelude.{zero, suc, ◌≤◌, nat_le, Bool, true, false, not, ◌&&◌, List, [], ◌∷◌, length, flat_map, Some, Contains, IsTrue, codes}
 use Rattle.qk_ast.specs.declared.Item.{Item as Root_item}
 use Rattle.qk_ast.specs.declared.Module.{Module}
 use Rattle.qk_ast.specs.declared.RuleKind.TheVariants.{NotComponent, RootValue, TooManySites}
 use Rattle.qk_ast.specs.declared.Expr.{Expr, Row_of-Expr, end_of-Expr, more_of-Expr, Row_of-Link, end_of-Link, more_of-Link}
 use Rattle.qk_ast.specs.declared.Link.{Link}
 use Rattle.qk_ast.specs.Texts.{Text, same_text}
-use Rattle.qk_ast.specs.Arrows.{Mark, Unmarked, arrows, all_arrows, link_arrows, item_arrows, of_kind, name_mark}
-use Rattle.qk_ast.specs.Spots.{Spot, Item, Root_value, With, spots, item_spots, called, arguments_of}
+use Rattle.qk_ast.specs.Arrows.{Mark, arrows, all_arrows, link_arrows, item_arrows, of_kind, name_mark}
+use Rattle.qk_ast.specs.Spots.{Item, Root_value, With, spots, item_spots, called, arguments_of}
 use Rattle.qk_ast.specs.Tags.{is_text_literal}
 use Rattle.qk_ast.specs.Placing.{Root_kind, A_component, A_context, Else, refuse_if, kind_of_value, called_kind, is_one_text, is_component, is_app, is_item, placing_breaches, all_placing_breaches, site_breaches, most_sites}
 use Rattle.qk_names.proofs.Each.{Each, head, tail, behind, keeps, empty_front, empty_behind}

@@ -1,24 +1,22 @@
 -- What an unbroken use says of its name, by the scopes around it.
 use Rattle.std.proofs.Common.{◌≡◌, refl, sym, ◌∙◌, ap, subst}
-use Rattle.std.proofs.lemmas.Bool.{false≢true, not-false, or_parts}
-use Rattle.std.specs.Prelude.{Bool, true, false, not, ◌&&◌, ◌||◌, List, [], ◌∷◌, ◌++◌, Option, Some, None, codes}
+use Rattle.std.proofs.lemmas.Bool.{false≢true}
+use Rattle.std.specs.Prelude.{Bool, true, false, not, ◌||◌, List, [], ◌∷◌, Option, Some, None, codes}
 use Rattle.qk_ast.specs.declared.Form.{Form}
 use Rattle.qk_ast.specs.declared.Tag.{Tag}
 use Rattle.qk_ast.specs.declared.ScopeKind.TheVariants.{UnknownName, EarlyUse}
 use Rattle.qk_ast.specs.declared.RuleKind.TheVariants.{NotComponent, TagRefused}
 use Rattle.qk_ast.specs.Texts.{Text, same_text}
 use Rattle.qk_ast.specs.Names.{is_listed}
-use Rattle.qk_ast.specs.Framework.{is_taken, is_fixed}
+use Rattle.qk_ast.specs.Framework.{is_fixed}
 use Rattle.qk_ast.specs.Scopes.{Kind, Constant, Variable, Tracker, Scope, Local, kind_in, meaning_from, meaning, is_local}
 use Rattle.qk_ast.specs.Mentions.{Uses}
-use Rattle.qk_ast.specs.Naming.{Naming_breach, breach_if, local_breaches, root_breaches, naming_breaches, is_variable}
+use Rattle.qk_ast.specs.Naming.{Naming_breach, breach_if, local_breaches, root_breaches, naming_breaches}
 use Rattle.qk_ast.specs.Spots.{Named, Tagged, Called, Standing}
-use Rattle.qk_ast.specs.Placing.{Root_kind, Placing_breach, refuse_if, local_use_breaches, root_use_breaches, capital_breaches, is_tracking, placing_breaches}
+use Rattle.qk_ast.specs.Placing.{Root_kind, Placing_breach, refuse_if, local_use_breaches, root_use_breaches, capital_breaches, placing_breaches}
 use Rattle.qk_names.proofs.Bits.{text_is}
-use Rattle.qk_names.proofs.Each.{Each, no_item, empty_front, empty_behind}
-use Rattle.qk_names.proofs.Components.{not_refused}
+use Rattle.qk_names.proofs.Each.{no_item, empty_behind}
 use Rattle.qk_names.proofs.Untaken.{Clean, no_local}
-use Rattle.qk_names.proofs.Listed.{no_some}
 
 -- what the innermost scope that declares it says, or else this
 abbrev pub if_kind : {X : Type 0} → Option Kind → (Kind → X) → X → X

@@ -19,3 +19,4 @@ mod Captured
 mod Captures
 mod PlainArrows
 mod Items
+pub mod Laws

@@ -1,14 +1,14 @@
 -- Which names are listed, and which are declared.
-use Rattle.std.proofs.Common.{◌≡◌, refl, sym, ◌∙◌, ap, subst}
-use Rattle.std.proofs.lemmas.Bool.{false≢true, or_from, or_left, or_right}
+use Rattle.std.proofs.Common.{◌≡◌, refl, sym, ◌∙◌, ap}
+use Rattle.std.proofs.lemmas.Bool.{false≢true, or_left, or_right}
 use Rattle.std.specs.Prelude.{Bool, true, false, ◌||◌, List, [], ◌∷◌, ◌++◌, Option, Some, None}
 use Rattle.qk_ast.specs.declared.Pattern.{Pattern}
 use Rattle.qk_ast.specs.declared.Stmt.{Stmt, Row_of-Stmt, end_of-Stmt, more_of-Stmt}
 use Rattle.qk_ast.specs.declared.Body.{Body, Block' as Body_block'}
 use Rattle.qk_ast.specs.Texts.{Text, same_text}
-use Rattle.qk_ast.specs.Names.{is_listed, around, others_than, those_of, each_once, pattern_names, declared_by, declared_in, body_names}
+use Rattle.qk_ast.specs.Names.{is_listed, around, others_than, those_of, each_once, declared_by, declared_in, body_names}
 use Rattle.qk_ast.specs.Scopes.{Kind, Constant, Variable, Declaration, kind_in, declared_as, declarations_of, declarations, declarations_in}
-use Rattle.qk_names.proofs.Bits.{text_is, text_own}
+use Rattle.qk_names.proofs.Bits.{text_is}
 use Rattle.qk_names.proofs.Each.{Each, none, head, tail, ◌∷'◌}
 use Rattle.qk_names.proofs.Plain.{Plain_block, Plain_body, Plain_statement}
 
@@ -103,7 +103,6 @@ around_names t (n ∷ names) outer h = by (same_text n t) refl h (around_names t
     by false e h f = f h
 
 -- ---- names of use that are captured
-
 
 abbrev also_if : Bool → Text → List Text → List Text
 also_if c x rest = elim c [ true ↦ x ∷ rest | false ↦ rest ]

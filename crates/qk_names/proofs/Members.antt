@@ -1,7 +1,7 @@
 -- Items of lists.
 use Rattle.std.proofs.Common.{◌≡◌, refl, sym, ◌∙◌, ap, subst, arith}
 use Rattle.std.proofs.lemmas.List.{length-append, get_or_append_left}
-use Rattle.std.specs.Prelude.{ℕ, zero, suc, ◌+◌, ◌<◌, Bool, true, false, List, [], ◌∷◌, ◌++◌, length, flat_map, Contains}
+use Rattle.std.specs.Prelude.{zero, suc, Bool, true, false, List, [], ◌∷◌, ◌++◌, Contains}
 use Rattle.qk_ast.specs.declared.Item.{Item}
 use Rattle.qk_ast.specs.Arrows.{Found_arrow, Unmarked, arrows, item_arrows, of_kind, is_dollar}
 

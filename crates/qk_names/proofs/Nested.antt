@@ -1,7 +1,7 @@
 -- Arrows that are followed by those inside them.
 use Rattle.std.proofs.Common.{◌≡◌, refl, sym, ◌∙◌, ap, subst, arith}
 use Rattle.std.proofs.lemmas.List.{append_assoc, append-nil}
-use Rattle.std.specs.Prelude.{ℕ, zero, suc, ◌+◌, ◌<◌, List, [], ◌∷◌, ◌++◌, length, flat_map, All, Contains, slice_index_or, ⊤}
+use Rattle.std.specs.Prelude.{zero, suc, List, [], ◌∷◌, ◌++◌, flat_map, All, Contains, ⊤}
 use Rattle.qk_ast.specs.Texts.{Text}
 use Rattle.qk_ast.specs.Arrows.{Found_arrow}
 use Rattle.qk_names.specs.Inside.{inside, with_inside}

@@ -1,7 +1,7 @@
 -- Arrows that are numbered one after another.
-use Rattle.std.proofs.Common.{◌≡◌, refl, sym, ◌∙◌, ap, subst, arith}
-use Rattle.std.specs.Prelude.{ℕ, zero, suc, ◌+◌, ◌≤◌, ◌<◌, List, [], ◌∷◌, ◌++◌, length}
-use Rattle.qk_ast.specs.Arrows.{Found_arrow, nth_arrow, arrow_at}
+use Rattle.std.proofs.Common.{◌≡◌, refl, sym, subst, arith}
+use Rattle.std.specs.Prelude.{ℕ, zero, suc, ◌+◌, ◌<◌, List, [], ◌∷◌, ◌++◌, length}
+use Rattle.qk_ast.specs.Arrows.{Found_arrow, nth_arrow}
 
 -- from one number up to another
 abbrev pub Numbers : List Found_arrow → ℕ → ℕ → Type 0

@@ -1,5 +1,5 @@
 -- Arrows whose places rise, and the numbers by which they are found.
-use Rattle.std.proofs.Common.{◌≡◌, refl, sym, ◌∙◌, ap, subst, arith}
+use Rattle.std.proofs.Common.{◌≡◌, refl, ◌∙◌, ap, subst, arith}
 use Rattle.std.specs.Prelude.{ℕ, zero, suc, ◌+◌, ◌≤◌, ◌<◌, ◌==◌, Bool, true, false, List, [], ◌∷◌, length, Contains, slice_index_or, ⊤}
 use Rattle.qk_ast.proofs.Pieces.{nat_is}
 use Rattle.qk_ast.specs.Arrows.{Found_arrow, nth_arrow, arrow_at, number_at, of_kind, same_kind, is_dollar}

@@ -3,7 +3,7 @@ use Rattle.std.proofs.Common.{◌≡◌, refl, sym, ◌∙◌, ap, subst}
 use Rattle.std.proofs.lemmas.Bool.{false≢true, or_cases}
 use Rattle.std.proofs.lemmas.List.{nil_from_length}
 use mathlib.Core.Logic.{◌⊎◌, inl, inr}
-use Rattle.std.specs.Prelude.{Bool, true, false, ◌==◌, ◌||◌, ◌&&◌, List, [], ◌∷◌, ◌++◌, length, Option, Some, None, IsTrue, codes, ⊤}
+use Rattle.std.specs.Prelude.{Bool, true, false, ◌==◌, ◌||◌, ◌&&◌, List, [], ◌∷◌, ◌++◌, length, Option, Some, None, codes, ⊤}
 use Rattle.qk_ast.specs.declared.Form.{Form}
 use Rattle.qk_ast.specs.declared.Item.{Item}
 use Rattle.qk_ast.specs.declared.Pattern.{Pattern}
@@ -18,14 +18,14 @@ use Rattle.qk_ast.specs.Texts.{Text, same_text, is_among}
 use Rattle.qk_ast.specs.Names.{patterns_names}
 use Rattle.qk_ast.specs.Arrows.{Mark, Unmarked, Marked, Tasked, Found_arrow, arrows, all_arrows, field_arrows, attribute_arrows, operand_arrows, link_arrows, jsx_arrows, statement_arrows, block_arrows, body_arrows, item_arrows, call_mark, name_mark, attribute_mark, inner_scope}
 use Rattle.qk_ast.specs.Scopes.{Constant, Scope, Local, meaning, arrow_scope, block_scope, for_scope, is_track, parameter_kind, behind as behind_statement}
-use Rattle.qk_ast.specs.Mentions.{Mention, Uses, mentions, target_mentions, all_mentions, field_mentions, attribute_mentions, operand_mentions, link_mentions, jsx_mentions, statement_mentions, block_mentions, body_mentions, item_mentions, declared_after, name_in}
-use Rattle.qk_ast.specs.Spots.{Spot, Named, Standing, Anywhere, Hook_statement, Root_value, Called, With, Not_called, spots, all_spots, field_spots, operand_spots, link_spots, jsx_spots, attribute_spots, statement_spots, block_spots, body_spots, item_spots, called, is_last, arguments_of, argument_of, standing_mark, is_component_arrow, const_standing, where_hooks, lets_hooks_follow}
+use Rattle.qk_ast.specs.Mentions.{Mention, Uses, mentions, all_mentions, field_mentions, attribute_mentions, operand_mentions, link_mentions, jsx_mentions, statement_mentions, block_mentions, body_mentions, item_mentions, name_in}
+use Rattle.qk_ast.specs.Spots.{Spot, Named, Standing, Anywhere, Hook_statement, Root_value, spots, all_spots, field_spots, operand_spots, link_spots, jsx_spots, attribute_spots, statement_spots, block_spots, body_spots, item_spots, called, is_last, arguments_of, argument_of, standing_mark, is_component_arrow, const_standing, where_hooks, lets_hooks_follow}
 use Rattle.qk_ast.specs.Placing.{Root_kind, Placing_breach, dollar_names, placing_breaches, local_use_breaches, root_use_breaches, is_dollar_call_refused, is_dollar_argument, has_parameters}
 use Rattle.qk_names.specs.Laws.{IsTask}
 use Rattle.qk_names.proofs.Bits.{text_is}
-use Rattle.qk_names.proofs.Each.{Each, none, one, head, tail, front, behind, ◌∷'◌, ◌▹◌}
+use Rattle.qk_names.proofs.Each.{Each, none, head, tail, front, behind, ◌∷'◌, ◌▹◌}
 use Rattle.qk_names.proofs.Components.{dollar_kept, taken}
-use Rattle.qk_names.proofs.Untaken.{Untaken, Clean, no_local, Named_well, names_clean, name_clean, block_clean, body_clean}
+use Rattle.qk_names.proofs.Untaken.{Clean, no_local, Named_well, names_clean, name_clean, block_clean, body_clean}
 
 -- ---- what a mark asks of an expression
 

@@ -1,5 +1,5 @@
 -- Where no rule of names is broken, no scope declares a taken name.
-use Rattle.std.proofs.Common.{◌≡◌, refl, sym, ◌∙◌, ap, subst}
+use Rattle.std.proofs.Common.{◌≡◌, refl, sym, ◌∙◌, ap}
 use Rattle.std.proofs.lemmas.Bool.{false≢true, or_parts}
 use Rattle.std.specs.Prelude.{Bool, true, false, ◌||◌, List, [], ◌∷◌, ◌++◌, Option, Some, None}
 use Rattle.qk_ast.specs.declared.Form.{Form}
@@ -9,9 +9,9 @@ use Rattle.qk_ast.specs.declared.Body.{Body, Block' as Body_block'}
 use Rattle.qk_ast.specs.Texts.{Text, same_text}
 use Rattle.qk_ast.specs.Names.{is_listed, pattern_names}
 use Rattle.qk_ast.specs.Framework.{is_taken}
-use Rattle.qk_ast.specs.Scopes.{Kind, Constant, Declaration, Scope, Local, kind_in, meaning_from, declared_as, declarations_of, declarations, declarations_in, behind as behind_statement}
+use Rattle.qk_ast.specs.Scopes.{Kind, Constant, Declaration, Scope, kind_in, meaning_from, declared_as, declarations_of, declarations, declarations_in, behind as behind_statement}
 use Rattle.qk_ast.specs.Mentions.{Mention, Declares, declared_after, statement_mentions, block_mentions, body_mentions}
-use Rattle.qk_ast.specs.Naming.{Naming_breach, breach_if, naming_breaches}
+use Rattle.qk_ast.specs.Naming.{breach_if, naming_breaches}
 use Rattle.qk_names.proofs.Bits.{text_is}
 use Rattle.qk_names.proofs.Each.{Each, none, one, head, tail, front, behind, ◌∷'◌, ◌▹◌, no_item}
 

@@ -1,5 +1,5 @@
 -- Where no rule of names and places is broken, each name that is used is known, and no `track` is used inside an arrow of its task.
-use Rattle.std.proofs.Common.{◌≡◌, refl, sym, ◌∙◌, ap, subst}
+use Rattle.std.proofs.Common.{◌≡◌, refl}
 use Rattle.std.proofs.lemmas.Bool.{false≢true}
 use Rattle.std.specs.Prelude.{Bool, true, false, ◌&&◌, List, [], ◌∷◌, ◌++◌, Option, Some, None}
 use Rattle.qk_ast.specs.declared.Form.{Form}
@@ -74,9 +74,10 @@ module _ (form : Form) (file : Text) (roots : List Text) (kinds : Text → Root_
       → Each (Outside outer scopes) (others_than (patterns_names params) (body_uses x))
   arrow_outside params x q mark standing outer scopes h =
       each_then (λ t f.
-      let k = body_kind x q t f.1.0 in
-      (f.1.1.0 (kind_both t _ (declarations_in x) (kind_as (parameter_kind mark params) t (patterns_names params) f.0) k),
-      tame_out t (arrow_scope (standing_mark standing) params x) scopes (kind_both t _ (declarations_in x) (kind_as (parameter_kind (standing_mark standing) params) t (patterns_names params) f.0) k) f.1.1.1))
+      let k = body_kind x q t f.1.0 in (
+        f.1.1.0 (kind_both t _ (declarations_in x) (kind_as (parameter_kind mark params) t (patterns_names params) f.0) k),
+        tame_out t (arrow_scope (standing_mark standing) params x) scopes (kind_both t _ (declarations_in x) (kind_as (parameter_kind (standing_mark standing) params) t (patterns_names params) f.0) k) f.1.1.1,
+      ))
       (each_other (patterns_names params) (body_uses x) h)
 
   tag_facts : (tag : Tag) (children : Bool) (outer scopes : List Scope) → Mentioned (tag_mentions tag outer) → Clean scopes → placing_breaches file kinds (Tagged tag children scopes) ≡ [] → Each (Fact outer scopes) (tag_use tag)

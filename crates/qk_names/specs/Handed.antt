@@ -1,5 +1,5 @@
 -- The arrow that a call is handed.
-use Rattle.std.specs.Prelude.{true, List, [], ◌∷◌, Option, Some, None}
+use Rattle.std.specs.Prelude.{true, [], ◌∷◌, Option, Some, None}
 use Rattle.qk_ast.specs.declared.Expr.{Expr, more_of-Expr, more_of-Arrow}
 use Rattle.qk_ast.specs.Arrows.{Mark, Found_arrow, call_mark}
 use Rattle.qk_ast.specs.Spots.{Called, With, called}

@@ -1,5 +1,5 @@
 -- The laws of arrows and names.
-use Rattle.std.specs.Prelude.{◌≡◌, ◌⊎◌, ℕ, ◌+◌, ◌<◌, ◌≤◌, Bool, true, ◌||◌, Option, Some, List, [], ◌∷◌, ◌++◌, length, flat_map, All, Contains, IsTrue}
+use Rattle.std.specs.Prelude.{◌≡◌, ◌⊎◌, ℕ, ◌+◌, ◌<◌, ◌≤◌, Bool, true, ◌||◌, Some, List, [], ◌∷◌, ◌++◌, length, flat_map, All, Contains, IsTrue}
 use Rattle.qk_ast.specs.declared.Form.{Form}
 use Rattle.qk_ast.specs.declared.Module.{Module}
 use Rattle.qk_ast.specs.declared.Item.{Item}

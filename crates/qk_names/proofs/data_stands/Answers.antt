@@ -1,5 +1,5 @@
-use Rattle.qk_names.proofs.Literals.{no_arrows, no_uses}
 use Rattle.qk_names.proofs.data_stands.Goals as goal
+use Rattle.qk_names.proofs.Laws as law
 
 pub returns : goal.returns
-returns c e h = (no_arrows e h, no_uses e h)
+returns c = law.data_stands

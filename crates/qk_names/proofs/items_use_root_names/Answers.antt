@@ -1,5 +1,5 @@
-use Rattle.qk_names.proofs.Captures.{root_used}
 use Rattle.qk_names.proofs.items_use_root_names.Goals as goal
+use Rattle.qk_names.proofs.Laws as law
 
 pub returns : goal.returns
-returns c = root_used
+returns c = law.items_use_root_names

@@ -1,5 +1,5 @@
-use Rattle.qk_names.proofs.Items.{few_sites}
 use Rattle.qk_names.proofs.sites_are_few.Goals as goal
+use Rattle.qk_names.proofs.Laws as law
 
 pub returns : goal.returns
-returns c = few_sites
+returns c = law.sites_are_few

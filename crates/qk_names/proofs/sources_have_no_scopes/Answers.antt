@@ -1,5 +1,5 @@
-use Rattle.qk_names.proofs.PlainArrows.{no_scopes}
 use Rattle.qk_names.proofs.sources_have_no_scopes.Goals as goal
+use Rattle.qk_names.proofs.Laws as law
 
 pub returns : goal.returns
-returns c = no_scopes
+returns c = law.sources_have_no_scopes
