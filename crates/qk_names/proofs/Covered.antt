@@ -31,6 +31,10 @@ tracked (Pattern.Fields (name ∷ [])) [] e t n = subst (λ name. same_text name
     unlisted false h = h
 tracked p rest e t n = absurd (false≢true e)
 
+track_listed : (params : List Pattern) → is_track params ≡ true → (t : Text) → same_text (codes "track") t ≡ true → is_listed t (patterns_names params) ≡ true
+track_listed (Pattern.Fields (name ∷ []) ∷ []) e t n = ap (λ b. or_listed b false) (ap (λ name. same_text name t) (text_is name (codes "track") e) ∙ n)
+track_listed params e t n = absurd (false≢true e)
+
 -- and it is the `track` of a task
 tracker : (params : List Pattern) (x : Body) → is_track params ≡ true → (t : Text) → is_listed t (patterns_names params) ≡ true → (scopes : List Scope) → untracked t (arrow_scope Tasked params x ∷ scopes) ≡ true → ⊥
 tracker (Pattern.Fields (name ∷ []) ∷ []) x e t h scopes u = by (same_text name (codes "track")) e (same_text name t) h u
@@ -42,27 +46,40 @@ tracker (Pattern.Fields (name ∷ []) ∷ []) x e t h scopes u = by (same_text n
     by false e c h u = false≢true e
 tracker params x e t h scopes u = absurd (false≢true e)
 
-module _ (roots : List Text) where
-  abbrev pub known : List Text → Text → Bool
-  known scope t = is_listed t scope || is_listed t roots
+-- a name of the scope, or one of these
+abbrev pub known : List Text → List Text → Text → Bool
+known others scope t = is_listed t scope || is_listed t others
 
+not_removed : (t x : Text) → same_text x t ≡ false → (scope : List Text) → is_listed t scope ≡ true → is_listed t (others_than (x ∷ []) scope) ≡ true
+not_removed t x n [] h = h
+not_removed t x n (y ∷ scope) h = by (same_text x y) refl (same_text y t) refl h (not_removed t x n scope)
+  where
+    by : (b : Bool) → same_text x y ≡ b → (c : Bool) → same_text y t ≡ c → or_listed c (is_listed t scope) ≡ true → (is_listed t scope ≡ true → is_listed t (others_than (x ∷ []) scope) ≡ true)
+        → is_listed t (elim (or_listed b false) [ true ↦ others_than (x ∷ []) scope | false ↦ y ∷ others_than (x ∷ []) scope ]) ≡ true
+    by true e true g h f = absurd (false≢true (sym n ∙ ap (λ z. same_text x z) (sym (text_is y t g)) ∙ e))
+    by true e false g h f = f h
+    by false e true g h f = ap (λ c. or_listed c (is_listed t (others_than (x ∷ []) scope))) g
+    by false e false g h f = or_behind (same_text y t) (is_listed t (others_than (x ∷ []) scope)) (f h)
+
+-- The root has these names, and those are known.
+module _ (roots others : List Text) where
   abbrev pub Covers : (outer scopes : List Scope) → List Text → Type 0
-  Covers outer scopes scope = (t : Text) → seen roots t outer ≡ true → untracked t scopes ≡ true → known scope t ≡ true
+  Covers outer scopes scope = (t : Text) → seen roots t outer ≡ true → untracked t scopes ≡ true → known others scope t ≡ true
 
   -- where these are declared too
   abbrev pub Covers_in : List Declaration → (outer scopes : List Scope) → List Text → Type 0
-  Covers_in ds outer scopes scope = (t : Text) → (kind_in t ds ≡ None → seen roots t outer ≡ true) → untracked t scopes ≡ true → known scope t ≡ true
+  Covers_in ds outer scopes scope = (t : Text) → (kind_in t ds ≡ None → seen roots t outer ≡ true) → untracked t scopes ≡ true → known others scope t ≡ true
 
-  listed_known : (scope : List Text) (t : Text) → is_listed t scope ≡ true → known scope t ≡ true
-  listed_known scope t h = or_left (is_listed t scope) (is_listed t roots) h
+  listed_known : (scope : List Text) (t : Text) → is_listed t scope ≡ true → known others scope t ≡ true
+  listed_known scope t h = or_left (is_listed t scope) (is_listed t others) h
 
   -- a longer scope knows what the shorter one knows
-  known_in : (scope longer : List Text) (t : Text) → (is_listed t scope ≡ true → is_listed t longer ≡ true) → known scope t ≡ true → known longer t ≡ true
-  known_in scope longer t f h = by (or_cases (is_listed t scope) (is_listed t roots) h)
+  known_in : (scope longer : List Text) (t : Text) → (is_listed t scope ≡ true → is_listed t longer ≡ true) → known others scope t ≡ true → known others longer t ≡ true
+  known_in scope longer t f h = by (or_cases (is_listed t scope) (is_listed t others) h)
     where
-      by : (is_listed t scope ≡ true) ⊎ (is_listed t roots ≡ true) → known longer t ≡ true
+      by : (is_listed t scope ≡ true) ⊎ (is_listed t others ≡ true) → known others longer t ≡ true
       by (inl e) = listed_known longer t (f e)
-      by (inr e) = or_right (is_listed t longer) (is_listed t roots) e
+      by (inr e) = or_right (is_listed t longer) (is_listed t others) e
 
   pub covers_statement : (own : Scope) (outer scopes : List Scope) (scope : List Text) → Covers_in own.declared outer scopes scope → Covers (own ∷ outer) scopes scope
   covers_statement own outer scopes scope f t h u = f t (λ k. seen_out roots t own outer k h) u
@@ -71,7 +88,7 @@ module _ (roots : List Text) where
       → Covers_in (declarations xs) outer (block_scope xs ∷ scopes) (around (declared_in xs) scope)
   covers_block xs q outer scopes scope f t h u = by (is_listed t (declared_in xs)) refl
     where
-      by : (b : Bool) → is_listed t (declared_in xs) ≡ b → known (around (declared_in xs) scope) t ≡ true
+      by : (b : Bool) → is_listed t (declared_in xs) ≡ b → known others (around (declared_in xs) scope) t ≡ true
       by true e = listed_known (around (declared_in xs) scope) t (around_names t (declared_in xs) scope e)
       by false e = let k = block_kind xs q t e in
           known_in scope (around (declared_in xs) scope) t (around_outer t (declared_in xs) scope) (f t (h k) (untracked_out t (block_scope xs) scopes k u))
@@ -81,7 +98,7 @@ module _ (roots : List Text) where
   covers_for name outer scopes scope f t h u = by (same_text name t) refl h u
     where
       by : (b : Bool) → same_text name t ≡ b → if_kind (found_or b Constant None) (λ k. or_listed b false) (seen roots t outer) ≡ true
-          → if_kind (found_or b Constant None) (λ k. not (is_tracker k)) (untracked t scopes) ≡ true → known (name ∷ scope) t ≡ true
+          → if_kind (found_or b Constant None) (λ k. not (is_tracker k)) (untracked t scopes) ≡ true → known others (name ∷ scope) t ≡ true
       by true e h u = listed_known (name ∷ scope) t (ap (λ b. or_listed b (is_listed t scope)) e)
       by false e h u = known_in scope (name ∷ scope) t (or_behind (same_text name t) (is_listed t scope)) (f t h u)
 
@@ -89,22 +106,11 @@ module _ (roots : List Text) where
   covers_list name outer scopes scope f t h u = by (same_text name t) h u
     where
       by : (b : Bool) → if_kind (found_or b Constant None) (λ k. false) (seen roots t outer) ≡ true
-          → if_kind (found_or b Constant None) (λ k. not (is_tracker k)) (untracked t scopes) ≡ true → known scope t ≡ true
+          → if_kind (found_or b Constant None) (λ k. not (is_tracker k)) (untracked t scopes) ≡ true → known others scope t ≡ true
       by true h u = absurd (false≢true h)
       by false h u = f t h u
 
   -- ---- in an arrow
-
-  not_removed : (t x : Text) → same_text x t ≡ false → (scope : List Text) → is_listed t scope ≡ true → is_listed t (others_than (x ∷ []) scope) ≡ true
-  not_removed t x n [] h = h
-  not_removed t x n (y ∷ scope) h = by (same_text x y) refl (same_text y t) refl h (not_removed t x n scope)
-    where
-      by : (b : Bool) → same_text x y ≡ b → (c : Bool) → same_text y t ≡ c → or_listed c (is_listed t scope) ≡ true → (is_listed t scope ≡ true → is_listed t (others_than (x ∷ []) scope) ≡ true)
-          → is_listed t (elim (or_listed b false) [ true ↦ others_than (x ∷ []) scope | false ↦ y ∷ others_than (x ∷ []) scope ]) ≡ true
-      by true e true g h f = absurd (false≢true (sym n ∙ ap (λ z. same_text x z) (sym (text_is y t g)) ∙ e))
-      by true e false g h f = f h
-      by false e true g h f = ap (λ c. or_listed c (is_listed t (others_than (x ∷ []) scope))) g
-      by false e false g h f = or_behind (same_text y t) (is_listed t (others_than (x ∷ []) scope)) (f h)
 
   -- what isn't a parameter is still around
   still_around : (mark : Mark) (params : List Pattern) → (mark ≡ Tasked → IsTask params) → (t : Text) → is_listed t (patterns_names params) ≡ false
@@ -140,8 +146,30 @@ module _ (roots : List Text) where
       nowhere : (kind : Kind) → is_listed t (body_names x) ≡ false → is_listed t (patterns_names params) ≡ false → kind_in t (declared_as kind (patterns_names params) ++ declarations_in x) ≡ None
       nowhere kind e g = kind_both t (declared_as kind (patterns_names params)) (declarations_in x) (kind_as kind t (patterns_names params) g) (body_kind x q t e)
 
-      by : (b : Bool) → is_listed t (body_names x) ≡ b → (c : Bool) → is_listed t (patterns_names params) ≡ c → known (around (body_names x) inside) t ≡ true
+      by : (b : Bool) → is_listed t (body_names x) ≡ b → (c : Bool) → is_listed t (patterns_names params) ≡ c → known others (around (body_names x) inside) t ≡ true
       by true e c g = listed_known (around (body_names x) inside) t (around_names t (body_names x) inside e)
       by false e true g = listed_known (around (body_names x) inside) t (around_outer t (body_names x) inside (parameter_around mark standing params x a task t g scopes u scope))
       by false e false g = known_in scope (around (body_names x) inside) t (λ l. around_outer t (body_names x) inside (still_around mark params task t g scope l))
           (f t (h (nowhere (parameter_kind mark params) e g)) (untracked_out t (arrow_scope (standing_mark standing) params x) scopes (nowhere (parameter_kind (standing_mark standing) params) e g) u))
+
+-- ---- in a task that takes `track`
+
+abbrev pub without_track : List Text → List Text
+without_track names = others_than (codes "track" ∷ []) names
+
+known_less : (others scope : List Text) (t : Text) → same_text (codes "track") t ≡ false → known others scope t ≡ true → known (without_track others) scope t ≡ true
+known_less others scope t n h = by (or_cases (is_listed t scope) (is_listed t others) h)
+  where
+    by : (is_listed t scope ≡ true) ⊎ (is_listed t others ≡ true) → known (without_track others) scope t ≡ true
+    by (inl e) = or_left (is_listed t scope) (is_listed t (without_track others)) e
+    by (inr e) = or_right (is_listed t scope) (is_listed t (without_track others)) (not_removed t (codes "track") n others e)
+
+-- what is known there is not `track` of the root
+pub covers_task : (roots others : List Text) (mark : Mark) (standing : Standing) (params : List Pattern) (x : Body) → Agree mark standing → mark ≡ Tasked → is_track params ≡ true
+    → (outer scopes : List Scope) (scope : List Text) → Covers_in roots others (arrow_scope mark params x).declared outer (arrow_scope (standing_mark standing) params x ∷ scopes) scope
+    → Covers_in roots (without_track others) (arrow_scope mark params x).declared outer (arrow_scope (standing_mark standing) params x ∷ scopes) scope
+covers_task roots others mark standing params x a tasked e outer scopes scope f t h u = by (same_text (codes "track") t) refl
+  where
+    by : (b : Bool) → same_text (codes "track") t ≡ b → known (without_track others) scope t ≡ true
+    by true n = absurd (tracker params x e t (track_listed params e t n) scopes (subst (λ mark. untracked t (arrow_scope mark params x ∷ scopes) ≡ true) (a tasked) u))
+    by false n = known_less others scope t n (f t h u)

@@ -10,7 +10,7 @@ use Rattle.qk_names.proofs.Components.{dollar_site}
 use Rattle.qk_names.proofs.Items.{item_form, app_is_component, few_sites, context_empty}
 use Rattle.qk_names.proofs.Literals.{no_arrows, no_uses}
 use Rattle.qk_names.proofs.PlainArrows.{no_scopes}
-use Rattle.qk_names.proofs.Captures.{tasks_take, names_captured, root_used}
+use Rattle.qk_names.proofs.Captures.{tasks_take, names_captured, track_stays as stays, root_used}
 
 pub arrows_are_numbered : law.ArrowsAreNumbered
 arrows_are_numbered form bytes m d n l = nth_place (item_arrows m.items) _ n (numbered form bytes m d) l
@@ -53,6 +53,9 @@ sources_have_no_scopes = no_scopes
 
 pub names_are_captured : law.NamesAreCaptured
 names_are_captured = names_captured
+
+pub track_stays : law.TrackStays
+track_stays = stays
 
 pub items_use_root_names : law.ItemsUseRootNames
 items_use_root_names = root_used

@@ -1,5 +1,5 @@
 -- The laws of arrows and names.
-use Rattle.std.specs.Prelude.{◌≡◌, ◌⊎◌, ℕ, ◌+◌, ◌<◌, ◌≤◌, Bool, true, ◌||◌, Some, List, [], ◌∷◌, ◌++◌, length, flat_map, All, Contains, IsTrue}
+use Rattle.std.specs.Prelude.{◌≡◌, ◌⊎◌, ℕ, ◌+◌, ◌<◌, ◌≤◌, Bool, true, ◌||◌, Some, List, [], ◌∷◌, ◌++◌, length, flat_map, All, Contains, IsTrue, codes}
 use Rattle.qk_ast.specs.declared.Form.{Form}
 use Rattle.qk_ast.specs.declared.Module.{Module}
 use Rattle.qk_ast.specs.declared.Item.{Item}
@@ -11,7 +11,7 @@ use Rattle.qk_ast.specs.declared.Pattern.{Pattern}
 use Rattle.qk_ast.specs.Scopes.{is_track}
 use Rattle.qk_ast.specs.Naming.{all_naming_breaches, root_names}
 use Rattle.qk_ast.specs.declared.Form.TheVariants.{Source}
-use Rattle.qk_ast.specs.Names.{is_listed, scope_names}
+use Rattle.qk_ast.specs.Names.{is_listed, others_than, scope_names}
 use Rattle.qk_ast.specs.Texts.{Text}
 use Rattle.qk_ast.specs.Placing.{Root_kind, A_component, A_context, kind_of_value, is_data, is_item, is_app, most_sites, all_placing_breaches}
 use Rattle.qk_names.specs.Handed.{handed}
@@ -116,3 +116,9 @@ NamesAreCaptured = (file : Text) (roots : Text → Root_kind) (bytes : List ℕ)
 abbrev pub ItemsUseRootNames : Type 0
 ItemsUseRootNames = (file : Text) (roots : Text → Root_kind) (bytes : List ℕ) (m : Module) → Derives Source bytes m → all_naming_breaches Source file m ≡ [] → all_placing_breaches file roots m ≡ []
     → All (λ i. All (λ name. IsTrue (is_listed name (root_names Source file m))) (uses i.init)) m.items
+
+-- there each free name of an arrow inside a task that takes `track` is captured, or a name of the root other than `track`
+abbrev pub TrackStays : Type 0
+TrackStays = (file : Text) (roots : Text → Root_kind) (bytes : List ℕ) (m : Module) → Derives Source bytes m → all_naming_breaches Source file m ≡ [] → all_placing_breaches file roots m ≡ []
+    → All (λ a. a.mark ≡ Tasked → IsTrue (is_track a.params)
+      → All (λ b. All (λ name. IsTrue (is_listed name (captures_of b) || is_listed name (others_than (codes "track" ∷ []) (root_names Source file m)))) (free_of b)) (inside a)) (item_arrows m.items)

@@ -2,7 +2,7 @@
 //! that does nothing.
 #![tactic(auto)]
 
-ghost use Rattle.qk_names.specs.Laws.{ArrowsAreFound, ArrowsAreNumbered, ComponentIsDollarSite, ContextsHaveNoArrows, DataStands, InsideFollows, InsideIsListed, ItemsHaveForms, ItemsUseRootNames, KindsAreNumbered, NamesAreCaptured, OutermostCaptureNothing, SitesAreFew, SourcesHaveNoScopes, TasksTakeTrack};
+ghost use Rattle.qk_names.specs.Laws.{ArrowsAreFound, ArrowsAreNumbered, ComponentIsDollarSite, ContextsHaveNoArrows, DataStands, InsideFollows, InsideIsListed, ItemsHaveForms, ItemsUseRootNames, KindsAreNumbered, NamesAreCaptured, OutermostCaptureNothing, SitesAreFew, SourcesHaveNoScopes, TasksTakeTrack, TrackStays};
 
 /// The arrows of a module that a text derives have the places 0, 1, 2 and so on, in text order.
 pub fn arrows_are_numbered()
@@ -75,6 +75,12 @@ pub fn sources_have_no_scopes()
 /// of the root.
 pub fn names_are_captured()
     ensures { NamesAreCaptured }
+{}
+
+/// In a source, where no rule of names and no rule of places is broken, each free name of an arrow inside a task that
+/// takes `track` is captured, or a name of the root other than `track`.
+pub fn track_stays()
+    ensures { TrackStays }
 {}
 
 /// In a source, where no rule of names and no rule of places is broken, each name that an item uses and doesn't declare
