@@ -121,10 +121,11 @@ module _ (form : Form) (file : Text) (roots : List Text) (kinds : Text → Root_
   arrow_by place params x q f others mark standing outer scopes scope a v h c p s =
       let clean = (names_clean form file roots (parameter_kind (standing_mark standing) params) [] (patterns_names params) (front _ _ h) ▹ body_clean form file roots x (arrow_scope mark params x) outer (behind _ _ h)) ∷' c in
       let covered = covers_arrow roots others mark standing params x q a (head s) outer scopes scope v in
-      let within = arrow_scope (standing_mark standing) params x ∷ scopes in
-      (each_then (λ t g. v t g.0 g.1) (arrow form file roots kinds params x q mark standing outer scopes h c p),
-      (λ tasked track. each_then (λ b g. g.0) (f (without_track others) (is_component_arrow standing) (arrow_scope mark params x) outer within (inner_scope mark params scope)
-      (covers_task roots others mark standing params x a tasked track outer scopes (around (body_names x) (inner_scope mark params scope)) covered) (behind _ _ h) clean p (tail s))))
+      let within = arrow_scope (standing_mark standing) params x ∷ scopes in (
+        each_then (λ t g. v t g.0 g.1) (arrow form file roots kinds params x q mark standing outer scopes h c p),
+        (λ tasked track. each_then (λ b g. g.0) (f (without_track others) (is_component_arrow standing) (arrow_scope mark params x) outer within (inner_scope mark params scope)
+            (covers_task roots others mark standing params x a tasked track outer scopes (around (body_names x) (inner_scope mark params scope)) covered) (behind _ _ h) clean p (tail s))),
+      )
       ∷' f others (is_component_arrow standing) (arrow_scope mark params x) outer within (inner_scope mark params scope) covered (behind _ _ h) clean p (tail s)
 
   -- a block of its own

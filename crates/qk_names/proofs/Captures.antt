@@ -2,12 +2,12 @@
 use Rattle.std.proofs.Common.{◌≡◌, ap}
 use Rattle.std.proofs.lemmas.Bool.{or_cases, or_left, or_right}
 use mathlib.Core.Logic.{◌⊎◌, inl, inr}
-use Rattle.std.specs.Prelude.{flat_map, All, ℕ, true, ◌||◌, List, [], ◌∷◌, IsTrue, codes}
+use Rattle.std.specs.Prelude.{flat_map, All, ℕ, true, ◌||◌, List, [], ◌∷◌, IsTrue}
 use Rattle.qk_ast.specs.declared.Form.{Form}
 use Rattle.qk_ast.specs.declared.Form.TheVariants.{Source}
 use Rattle.qk_ast.specs.declared.Module.{Module}
 use Rattle.qk_ast.specs.Texts.{Text, same_text}
-use Rattle.qk_ast.specs.Names.{is_listed, others_than, those_of}
+use Rattle.qk_ast.specs.Names.{is_listed, those_of}
 use Rattle.qk_ast.specs.Arrows.{Tasked, Found_arrow, item_arrows}
 use Rattle.qk_ast.specs.Uses.{uses, free_of, captures_of}
 use Rattle.qk_ast.specs.Mentions.{module_mentions, item_mentions, import_names}

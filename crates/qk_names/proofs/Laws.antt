@@ -10,6 +10,7 @@ use Rattle.qk_names.proofs.Components.{dollar_site}
 use Rattle.qk_names.proofs.Items.{item_form, app_is_component, few_sites, context_empty}
 use Rattle.qk_names.proofs.Literals.{no_arrows, no_uses}
 use Rattle.qk_names.proofs.PlainArrows.{no_scopes}
+use Rattle.qk_names.proofs.Accepted.{accepted}
 use Rattle.qk_names.proofs.Captures.{tasks_take, names_captured, track_stays as stays, root_used}
 
 pub arrows_are_numbered : law.ArrowsAreNumbered
@@ -45,17 +46,20 @@ contexts_have_no_arrows = context_empty
 pub data_stands : law.DataStands
 data_stands e h = (no_arrows e h, no_uses e h)
 
+pub accepted_keep_rules : law.AcceptedKeepRules
+accepted_keep_rules = accepted
+
 pub tasks_take_track : law.TasksTakeTrack
-tasks_take_track = tasks_take
+tasks_take_track form file roots m (named, placed) = tasks_take form file roots m named placed
 
 pub sources_have_no_scopes : law.SourcesHaveNoScopes
 sources_have_no_scopes = no_scopes
 
 pub names_are_captured : law.NamesAreCaptured
-names_are_captured = names_captured
-
-pub track_stays : law.TrackStays
-track_stays = stays
+names_are_captured file roots bytes m d (named, placed) = names_captured file roots bytes m d named placed
 
 pub items_use_root_names : law.ItemsUseRootNames
-items_use_root_names = root_used
+items_use_root_names file roots bytes m d (named, placed) = root_used file roots bytes m d named placed
+
+pub track_stays : law.TrackStays
+track_stays file roots bytes m d (named, placed) = stays file roots bytes m d named placed

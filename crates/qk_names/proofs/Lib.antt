@@ -19,4 +19,5 @@ mod Captured
 mod Captures
 mod PlainArrows
 mod Items
+mod Accepted
 pub mod Laws

@@ -13,7 +13,9 @@ use Rattle.qk_ast.specs.Naming.{all_naming_breaches, root_names}
 use Rattle.qk_ast.specs.declared.Form.TheVariants.{Source}
 use Rattle.qk_ast.specs.Names.{is_listed, others_than, scope_names}
 use Rattle.qk_ast.specs.Texts.{Text}
-use Rattle.qk_ast.specs.Placing.{Root_kind, A_component, A_context, kind_of_value, is_data, is_item, is_app, most_sites, all_placing_breaches}
+use Rattle.qk_ast.specs.Placing.{Root_kind, A_component, A_context, kind_of_value, is_data, is_item, is_app, most_sites, all_placing_breaches, root_kind}
+use Rattle.qk_ast.specs.Sources.{Named_module}
+use Rattle.qk_ast.specs.Application.{application_breaches}
 use Rattle.qk_names.specs.Handed.{handed}
 use Rattle.qk_names.specs.Inside.{inside, with_inside}
 
@@ -90,15 +92,25 @@ ContextsHaveNoArrows = (e : Expr) → kind_of_value e ≡ A_context → (mark : 
 abbrev pub DataStands : Type 0
 DataStands = (e : Expr) → is_data e ≡ true → ((mark : Mark) (scope : List Text) → arrows e mark scope ≡ []) × (uses e ≡ [])
 
+-- ---- accepted applications
+
+-- no rule of names and no rule of places is broken
+abbrev pub KeepsRules : Form → Text → (Text → Root_kind) → Module → Type 0
+KeepsRules form file roots m = (all_naming_breaches form file m ≡ []) × (all_placing_breaches file roots m ≡ [])
+
+-- the modules of an accepted application break none
+abbrev pub AcceptedKeepRules : Type 0
+AcceptedKeepRules = (modules : List Named_module) → application_breaches modules ≡ [] → (m : Named_module) → Contains modules m → KeepsRules Source m.0 (root_kind modules m.1) m.1
+
 -- ---- tasks
 
 -- the parameters of a task: none, or `{ track }`
 abbrev pub IsTask : List Pattern → Type 0
 IsTask params = (params ≡ []) ⊎ IsTrue (is_track params)
 
--- where no rule of names and no rule of places is broken, each task has such parameters
+-- where no rule is broken each task has such parameters
 abbrev pub TasksTakeTrack : Type 0
-TasksTakeTrack = (form : Form) (file : Text) (roots : Text → Root_kind) (m : Module) → all_naming_breaches form file m ≡ [] → all_placing_breaches file roots m ≡ []
+TasksTakeTrack = (form : Form) (file : Text) (roots : Text → Root_kind) (m : Module) → KeepsRules form file roots m
     → All (λ a. a.mark ≡ Tasked → IsTask a.params) (item_arrows m.items)
 
 -- ---- names
@@ -107,18 +119,18 @@ TasksTakeTrack = (form : Form) (file : Text) (roots : Text → Root_kind) (m : M
 abbrev pub SourcesHaveNoScopes : Type 0
 SourcesHaveNoScopes = (bytes : List ℕ) (m : Module) → Derives Source bytes m → All (λ a. scope_names a.body ≡ []) (item_arrows m.items)
 
--- in a source, where no rule of names and no rule of places is broken, each free name of an arrow is captured, or a name of the root
+-- in a source, where no rule is broken, each free name of an arrow is captured, or a name of the root
 abbrev pub NamesAreCaptured : Type 0
-NamesAreCaptured = (file : Text) (roots : Text → Root_kind) (bytes : List ℕ) (m : Module) → Derives Source bytes m → all_naming_breaches Source file m ≡ [] → all_placing_breaches file roots m ≡ []
+NamesAreCaptured = (file : Text) (roots : Text → Root_kind) (bytes : List ℕ) (m : Module) → Derives Source bytes m → KeepsRules Source file roots m
     → All (λ a. All (λ name. IsTrue (is_listed name (captures_of a) || is_listed name (root_names Source file m))) (free_of a)) (item_arrows m.items)
 
--- and each name that an item uses and doesn't declare is a name of the root
+-- there each name that an item uses and doesn't declare is a name of the root
 abbrev pub ItemsUseRootNames : Type 0
-ItemsUseRootNames = (file : Text) (roots : Text → Root_kind) (bytes : List ℕ) (m : Module) → Derives Source bytes m → all_naming_breaches Source file m ≡ [] → all_placing_breaches file roots m ≡ []
+ItemsUseRootNames = (file : Text) (roots : Text → Root_kind) (bytes : List ℕ) (m : Module) → Derives Source bytes m → KeepsRules Source file roots m
     → All (λ i. All (λ name. IsTrue (is_listed name (root_names Source file m))) (uses i.init)) m.items
 
 -- there each free name of an arrow inside a task that takes `track` is captured, or a name of the root other than `track`
 abbrev pub TrackStays : Type 0
-TrackStays = (file : Text) (roots : Text → Root_kind) (bytes : List ℕ) (m : Module) → Derives Source bytes m → all_naming_breaches Source file m ≡ [] → all_placing_breaches file roots m ≡ []
+TrackStays = (file : Text) (roots : Text → Root_kind) (bytes : List ℕ) (m : Module) → Derives Source bytes m → KeepsRules Source file roots m
     → All (λ a. a.mark ≡ Tasked → IsTrue (is_track a.params)
-      → All (λ b. All (λ name. IsTrue (is_listed name (captures_of b) || is_listed name (others_than (codes "track" ∷ []) (root_names Source file m)))) (free_of b)) (inside a)) (item_arrows m.items)
+    → All (λ b. All (λ name. IsTrue (is_listed name (captures_of b) || is_listed name (others_than (codes "track" ∷ []) (root_names Source file m)))) (free_of b)) (inside a)) (item_arrows m.items)

@@ -2,7 +2,7 @@
 //! that does nothing.
 #![tactic(auto)]
 
-ghost use Rattle.qk_names.specs.Laws.{ArrowsAreFound, ArrowsAreNumbered, ComponentIsDollarSite, ContextsHaveNoArrows, DataStands, InsideFollows, InsideIsListed, ItemsHaveForms, ItemsUseRootNames, KindsAreNumbered, NamesAreCaptured, OutermostCaptureNothing, SitesAreFew, SourcesHaveNoScopes, TasksTakeTrack, TrackStays};
+ghost use Rattle.qk_names.specs.Laws.{AcceptedKeepRules, ArrowsAreFound, ArrowsAreNumbered, ComponentIsDollarSite, ContextsHaveNoArrows, DataStands, InsideFollows, InsideIsListed, ItemsHaveForms, ItemsUseRootNames, KindsAreNumbered, NamesAreCaptured, OutermostCaptureNothing, SitesAreFew, SourcesHaveNoScopes, TasksTakeTrack, TrackStays};
 
 /// The arrows of a module that a text derives have the places 0, 1, 2 and so on, in text order.
 pub fn arrows_are_numbered()
@@ -61,6 +61,11 @@ pub fn data_stands()
     ensures { DataStands }
 {}
 
+/// The modules of an accepted application break no rule of names and no rule of places.
+pub fn accepted_keep_rules()
+    ensures { AcceptedKeepRules }
+{}
+
 /// Where no rule of names and no rule of places is broken, each task has no parameter or `{ track }`.
 pub fn tasks_take_track()
     ensures { TasksTakeTrack }
@@ -77,14 +82,14 @@ pub fn names_are_captured()
     ensures { NamesAreCaptured }
 {}
 
-/// In a source, where no rule of names and no rule of places is broken, each free name of an arrow inside a task that
-/// takes `track` is captured, or a name of the root other than `track`.
-pub fn track_stays()
-    ensures { TrackStays }
-{}
-
 /// In a source, where no rule of names and no rule of places is broken, each name that an item uses and doesn't declare
 /// is a name of the root.
 pub fn items_use_root_names()
     ensures { ItemsUseRootNames }
+{}
+
+/// In a source, where no rule of names and no rule of places is broken, each free name of an arrow inside a task that
+/// takes `track` is captured, or a name of the root other than `track`.
+pub fn track_stays()
+    ensures { TrackStays }
 {}
