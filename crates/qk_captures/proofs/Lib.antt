@@ -1,0 +1,5 @@
+pub mod Scopes
+pub mod Once
+pub mod Alike
+pub mod Walks
+pub mod Dollars
