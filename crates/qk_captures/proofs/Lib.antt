@@ -1,5 +1,7 @@
+pub mod Examples
 pub mod Scopes
 pub mod Once
 pub mod Alike
 pub mod Walks
 pub mod Dollars
+pub mod Numbers

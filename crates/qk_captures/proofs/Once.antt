@@ -38,7 +38,7 @@ unfolding Agree
 once_those s seen also [] h = refl
 once_those s seen also (x ∷ xs) h = front (is_listed x s)
     ∙ step x (is_listed x seen) (is_listed x also) (is_listed x s) s (each_once seen (those_of s xs)) (each_once (x ∷ seen) (those_of s xs)) (each_once also xs) (each_once (x ∷ also) xs)
-        (h x) (once_those s seen also xs h) (λ e. once_those s (x ∷ seen) (x ∷ also) xs (agree_front s seen also x h)) (λ e. once_those s seen (x ∷ also) xs (agree_more s seen also x e h))
+    (h x) (once_those s seen also xs h) (λ e. once_those s (x ∷ seen) (x ∷ also) xs (agree_front s seen also x h)) (λ e. once_those s seen (x ∷ also) xs (agree_more s seen also x e h))
     ∙ sym (behind (is_listed x also))
   where
     front : (b : Bool) → each_once seen (elim b [ true ↦ x ∷ those_of s xs | false ↦ those_of s xs ])

@@ -115,7 +115,7 @@ behind_scope : (names : List Text) (F G : List Text → List Found_arrow) (old d
 behind_scope names F G old done inner left outside at opened walked closed same is = behind_inside F G old done inner left outside at walked closed
     (ap (back_to (outside_of old.scope)) opened ∙ back_from_all names old.scope)
     (ap (λ scope. notes (F (in_scope scope))) opened ∙ same (in_scope (with_all names old.scope)) (around names (in_scope old.scope)) (in_scope_all names old.scope)
-        ∙ ap notes (is (in_scope old.scope)))
+    ∙ ap notes (is (in_scope old.scope)))
 
 met_first : (a : Arrow) (mark : Mark) (old : Walk) → behind (λ scope. body_arrows a.body (inner_scope mark a.params scope)) (noted (note_of (arrow_of a mark (in_scope old.scope))) old) ≡ behind (arrow_found a mark) old
 unfolding behind all_noted noted
@@ -126,10 +126,11 @@ pub behind_arrow : (a : Arrow) (mark : Mark) (n : Note) (old met done : Walk) (i
     → record done { scope = left } ≡ behind (arrow_found a mark) old
 behind_arrow a mark n old met done inner left outside is next at opened walked closed =
     behind_inside (body_arrows a.body) (λ scope. body_arrows a.body (inner_scope mark a.params scope)) met done inner left outside at walked closed
-        (ap (back_to (outside_of met.scope)) opened ∙ back_from_arrow mark a.params met.scope)
-        (ap (λ scope. notes (body_arrows a.body (in_scope scope))) opened
-            ∙ body_alike a.body (in_scope (inside_arrow mark a.params met.scope)) (inner_scope mark a.params (in_scope met.scope)) (in_scope_inside mark a.params met.scope))
+    (ap (back_to (outside_of met.scope)) opened ∙ back_from_arrow mark a.params met.scope)
+    (ap (λ scope. notes (body_arrows a.body (in_scope scope))) opened
+    ∙ body_alike a.body (in_scope (inside_arrow mark a.params met.scope)) (inner_scope mark a.params (in_scope met.scope)) (in_scope_inside mark a.params met.scope))
     ∙ ap (behind (λ scope. body_arrows a.body (inner_scope mark a.params scope))) (next ∙ ap (λ n. noted n old) is) ∙ met_first a mark old
+
 -- ---- rows are their lists
 
 expressions_row : (mark : Mark) (xs : List Expr) (scope : List Text) → all_arrows (hidden-the_row-Expr-2 xs) mark scope ≡ each_found (marked_found mark) xs scope
@@ -214,14 +215,14 @@ behind_unary op x mark w = behind_same _ _ w (λ scope. append-nil (arrows x Unm
 pub behind_chain : (x : Expr) (os : List Operand) (mark : Mark) (w : Walk) → behind (arrows (e.Chain x os) mark) w ≡ behind (each_found operand_found os) (behind (arrows x Unmarked) w)
 unfolding shape-the_row-Expr-0 hidden-the_row-Expr-0 hidden
 behind_chain x os mark w = behind_same _ _ w (λ scope. ap (λ found. found ++ operand_arrows (hidden-the_row-Operand-4 os) scope) (append-nil (arrows x Unmarked scope))
-        ∙ ap (λ found. arrows x Unmarked scope ++ found) (operands_row os scope))
+    ∙ ap (λ found. arrows x Unmarked scope ++ found) (operands_row os scope))
     ∙ behind_both (arrows x Unmarked) (each_found operand_found os) w
 
 pub behind_choice : (x y z : Expr) (mark : Mark) (w : Walk) → behind (arrows (e.Cond x y z) mark) w ≡ behind (arrows z Unmarked) (behind (arrows y Unmarked) (behind (arrows x Unmarked) w))
 unfolding shape-the_row-Expr-0 hidden-the_row-Expr-0 hidden
 behind_choice x y z mark w = behind_same _ _ w (λ scope. ap (λ found. found ++ ((arrows y Unmarked scope ++ []) ++ (arrows z Unmarked scope ++ []))) (append-nil (arrows x Unmarked scope))
-        ∙ ap (λ found. arrows x Unmarked scope ++ (found ++ (arrows z Unmarked scope ++ []))) (append-nil (arrows y Unmarked scope))
-        ∙ ap (λ found. arrows x Unmarked scope ++ (arrows y Unmarked scope ++ found)) (append-nil (arrows z Unmarked scope)))
+    ∙ ap (λ found. arrows x Unmarked scope ++ (found ++ (arrows z Unmarked scope ++ []))) (append-nil (arrows y Unmarked scope))
+    ∙ ap (λ found. arrows x Unmarked scope ++ (arrows y Unmarked scope ++ found)) (append-nil (arrows z Unmarked scope)))
     ∙ behind_three (arrows x Unmarked) (arrows y Unmarked) (arrows z Unmarked) w
 
 pub behind_post : (x : Expr) (ls : List Link) (mark : Mark) (w : Walk) → behind (arrows (e.Post x ls) mark) w ≡ behind (links_found (call_mark x) ls) (behind (arrows x Unmarked) w)
@@ -232,7 +233,7 @@ behind_post x ls mark w = behind_same _ _ w (λ scope. ap (λ found. arrows x Un
 pub behind_assign : (op : AssignOp) (target x : Expr) (mark : Mark) (w : Walk) → behind (arrows (e.Assign op target x) mark) w ≡ behind (arrows x Unmarked) (behind (arrows target Unmarked) w)
 unfolding shape-the_row-Expr-0 hidden-the_row-Expr-0 hidden
 behind_assign op target x mark w = behind_same _ _ w (λ scope. ap (λ found. found ++ (arrows x Unmarked scope ++ [])) (append-nil (arrows target Unmarked scope))
-        ∙ ap (λ found. arrows target Unmarked scope ++ found) (append-nil (arrows x Unmarked scope)))
+    ∙ ap (λ found. arrows target Unmarked scope ++ found) (append-nil (arrows x Unmarked scope)))
     ∙ behind_both (arrows target Unmarked) (arrows x Unmarked) w
 
 pub behind_step : (up : Bool) (target : Expr) (mark : Mark) (w : Walk) → behind (arrows (e.Step up target) mark) w ≡ behind (arrows target Unmarked) w
@@ -282,7 +283,7 @@ behind_return (Some x) w = refl
 
 pub behind_if : (x : Expr) (ss ts : List Stmt) (w : Walk) → behind (statement_arrows (s.If x ss ts)) w ≡ behind (block_found ts) (behind (block_found ss) (behind (arrows x Unmarked) w))
 behind_if x ss ts w = behind_same _ _ w (λ scope. ap (λ found. arrows x Unmarked scope ++ (found ++ block_arrows (hidden-the_row-Stmt-1 ts) (around (declared_in (hidden-the_row-Stmt-1 ts)) scope))) (block_row ss scope)
-        ∙ ap (λ found. arrows x Unmarked scope ++ (block_found ss scope ++ found)) (block_row ts scope))
+    ∙ ap (λ found. arrows x Unmarked scope ++ (block_found ss scope ++ found)) (block_row ts scope))
     ∙ behind_three (arrows x Unmarked) (block_found ss) (block_found ts) w
 
 pub behind_while : (x : Expr) (ss : List Stmt) (w : Walk) → behind (statement_arrows (s.While x ss)) w ≡ behind (block_found ss) (behind (arrows x Unmarked) w)

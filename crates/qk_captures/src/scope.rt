@@ -49,11 +49,7 @@ impl<'a> Scope<'a> {
     }
 
     /// Those of the names that are in scope. They aren't copied.
-    pub(crate) fn those_in(
-        &self,
-        alloc: Global,
-        names: &[Text],
-    ) -> Result<List<Text>, AllocError>
+    pub(crate) fn those_in(&self, alloc: Global, names: &[Text]) -> Result<List<Text>, AllocError>
         ensures { IfOk result (λ those. those ≡ those_of (in_scope self.now) names.now) }
     {
         let mut those = Builder::new(alloc);

@@ -121,7 +121,7 @@ fields-returns t c = behind_last field_found c.args.fields.now c.loop-field.fiel
 
 pub attributes-loop-field-preserved : goal.attributes-loop-field-preserved
 attributes-loop-field-preserved t c = ap (behind (each_found attribute_found (drop (c.loop-field.field-index + 1) c.args.fields.now)))
-        (c.in_ok-expression.ensures ∙ ap (λ mark. behind (arrows c.field-item.result.value mark) c.loop-field.self) (c.of_attribute.ensures ∙ ap attribute_mark c.as_str.ensures))
+    (c.in_ok-expression.ensures ∙ ap (λ mark. behind (arrows c.field-item.result.value mark) c.loop-field.self) (c.of_attribute.ensures ∙ ap attribute_mark c.as_str.ensures))
     ∙ behind_next attribute_found c.args.fields.now c.loop-field.field-index c.field-item.result c.loop-field.self c.loop-field-test.true c.field-item.is ∙ c.loop-field.invariant
 
 pub attributes-returns : goal.attributes-returns
