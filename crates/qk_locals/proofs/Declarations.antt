@@ -1,5 +1,5 @@
 -- Declarations in which each name stands once: what a name is declared as there, and declarations that go one after another.
-use Rattle.std.specs.Prelude.{◌≡◌, refl, ℕ, ◌+◌, ◌<◌, Bool, true, false, List, [], ◌∷◌, ◌++◌, map, flat_map, length, drop, if◌then◌else◌, Option, Some, None, bytes_eq}
+use Rattle.std.specs.Prelude.{◌≡◌, refl, ℕ, ◌+◌, ◌<◌, Bool, true, false, List, [], ◌∷◌, ◌++◌, flat_map, length, drop, if◌then◌else◌, Option, Some, None, bytes_eq}
 use Rattle.std.proofs.Common.{sym, ◌∙◌, ap, true≢false, cond, is_some}
 use Rattle.std.specs.Borrow.{Bor}
 use Rattle.std.specs.Option.{option_map}

@@ -1,5 +1,5 @@
 -- A name ends in `$` where its last byte is one.
-use Rattle.std.specs.Prelude.{◌≡◌, refl, ℕ, ◌-◌, Bool, false, ◌==◌, List, [], ◌∷◌, length, slice_get, Option, Some, None}
+use Rattle.std.specs.Prelude.{◌≡◌, refl, ℕ, ◌-◌, Bool, false, ◌==◌, [], ◌∷◌, length, slice_get, Option, Some, None}
 use Rattle.std.proofs.Common.{◌∙◌, ap, arith}
 use Rattle.qk_ast.specs.Texts.{Text, ends_in_dollar}
 

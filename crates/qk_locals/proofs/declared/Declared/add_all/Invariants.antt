@@ -1,6 +1,5 @@
-use Rattle.std.specs.Prelude.{◌≡◌, drop, flat_map}
-use Rattle.qk_ast.specs.Names.{patterns_names}
-use Rattle.qk_ast.specs.Scopes.{declared_as, declarations_of}
+use Rattle.std.specs.Prelude.{◌≡◌, drop}
+use Rattle.qk_ast.specs.Scopes.{declared_as}
 use Rattle.qk_locals.specs.Meanings.{kind_of}
 use Rattle.qk_locals.specs.Declaring.{with_declarations}
 use Rattle.qk_locals.proofs.declared.Declared.add_all.Given as goal
