@@ -1,8 +1,7 @@
 -- What is noted of arrows is decided by which names are in scope, whatever the order in which they are listed.
-use Rattle.std.specs.Prelude.{◌≡◌, refl, Bool, List, [], ◌∷◌, ◌++◌, map}
+use Rattle.std.specs.Prelude.{◌≡◌, refl, List, [], ◌∷◌, ◌++◌, map}
 use Rattle.std.proofs.Common.{sym, ◌∙◌, ap}
 use Rattle.std.proofs.lemmas.List.{map-append}
-use Rattle.qk_ast.specs.declared.Pattern.{Pattern}
 use Rattle.qk_ast.specs.declared.Expr.{Expr, Row_of-Expr, end_of-Expr, more_of-Expr, Row_of-Field, end_of-Field, more_of-Field, Row_of-Operand, end_of-Operand, more_of-Operand, Row_of-Link, end_of-Link, more_of-Link, more_of-Arrow, more_of-Jsx}
 use Rattle.qk_ast.specs.declared.Stmt.{Stmt, Block' as Statement_block', Row_of-Stmt, end_of-Stmt, more_of-Stmt, None', Some'}
 use Rattle.qk_ast.specs.declared.Link.{Link}
@@ -10,7 +9,7 @@ use Rattle.qk_ast.specs.declared.Jsx.{Jsx, Jsx'}
 use Rattle.qk_ast.specs.declared.Body.{Body, Block' as Body_block'}
 use Rattle.qk_ast.specs.Texts.{Text}
 use Rattle.qk_ast.specs.Names.{around, declared_in, each_once}
-use Rattle.qk_ast.specs.Arrows.{Mark, Unmarked, Marked, Tasked, Found_arrow, call_mark, attribute_mark, inner_scope, arrows, all_arrows, field_arrows, attribute_arrows, operand_arrows, link_arrows, jsx_arrows, statement_arrows, block_arrows, body_arrows, is_dollar}
+use Rattle.qk_ast.specs.Arrows.{Mark, Unmarked, Found_arrow, call_mark, attribute_mark, inner_scope, arrows, all_arrows, field_arrows, attribute_arrows, operand_arrows, link_arrows, jsx_arrows, statement_arrows, block_arrows, body_arrows, is_dollar}
 use Rattle.qk_ast.specs.Uses.{free_of}
 use Rattle.qk_captures.specs.Walking.{Note, note_of}
 use Rattle.qk_captures.proofs.Scopes.{Same, same_around, same_front, same_inside, same_those}

@@ -3,5 +3,4 @@ pub mod Scopes
 pub mod Once
 pub mod Alike
 pub mod Walks
-pub mod Dollars
 pub mod Numbers

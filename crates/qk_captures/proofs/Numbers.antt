@@ -1,16 +1,14 @@
 -- The walk numbers arrows as the definition does: each kind from 1.
-use Rattle.std.specs.Prelude.{◌≡◌, refl, ℕ, suc, ◌+◌, Bool, true, false, not, List, [], ◌∷◌, ◌++◌, length, map}
-use Rattle.std.proofs.Common.{sym, ◌∙◌, ap, arith}
-use Rattle.std.proofs.lemmas.List.{append_assoc, append-nil, length-append}
+use Rattle.std.specs.Prelude.{◌≡◌, refl, ℕ, suc, Bool, true, false, not, List, [], ◌∷◌, ◌++◌, length, map}
+use Rattle.std.proofs.Common.{sym, ◌∙◌, ap}
+use Rattle.std.proofs.lemmas.List.{append_assoc, append-nil}
 use Rattle.qk_ast.specs.declared.Item.{Item}
 use Rattle.qk_ast.specs.Texts.{Text}
 use Rattle.qk_ast.specs.Arrows.{Unmarked, Found_arrow, arrows, item_arrows, is_dollar, same_kind, of_kind}
-use Rattle.qk_ast.specs.Uses.{captures_of}
-use Rattle.qk_captures.specs.declared.Captured.{Captured}
 use Rattle.qk_captures.specs.declared.walk.Walk.{Walk}
 use Rattle.qk_captures.specs.Scoping.{in_scope}
 use Rattle.qk_captures.specs.Capturing.{captured_after}
-use Rattle.qk_captures.specs.Walking.{Note, note_of, noted, all_noted, one_more, count_of, captured, behind, each_found, item_found}
+use Rattle.qk_captures.specs.Walking.{note_of, noted, all_noted, one_more, count_of, captured, behind, each_found, item_found}
 
 one_behind : (kind : Bool) (before : List Found_arrow) (a : Found_arrow) → length (of_kind kind (before ++ a ∷ [])) ≡ one_more (same_kind kind (is_dollar a)) (length (of_kind kind before))
 one_behind kind [] a = by (same_kind kind (is_dollar a))

@@ -12,7 +12,6 @@ use Rattle.qk_ast.specs.Arrows as arrows
 use Rattle.qk_ast.specs.Walking.{with_name, with_names}
 use Rattle.qk_ast.proofs.Bound.{listed_inside, outer_kept}
 use Rattle.qk_captures.specs.declared.scope.Scope.{Scope}
-use Rattle.qk_captures.specs.declared.scope.Outside.{Outside}
 use Rattle.qk_captures.specs.Scoping.{track, shown, in_scope, with_one, with_all, inside_arrow, outside_of, back_to}
 
 -- two lists list the same names

@@ -1,5 +1,5 @@
 -- The walk over the forms: each is its parts one after another.
-use Rattle.std.specs.Prelude.{◌≡◌, refl, ℕ, ◌+◌, ◌<◌, ◌≤◌, Bool, List, [], ◌∷◌, ◌++◌, length, drop, map, flat_map, Option, Some, None}
+use Rattle.std.specs.Prelude.{◌≡◌, refl, ℕ, ◌+◌, ◌<◌, ◌≤◌, Bool, List, [], ◌∷◌, ◌++◌, length, drop, map, Option, Some, None}
 use Rattle.std.proofs.Common.{sym, ◌∙◌, ap}
 use Rattle.std.proofs.Math.ListN.{get_or}
 use Rattle.std.proofs.lemmas.List.{append-nil, at_drop_more, at_drop_all}
@@ -31,7 +31,7 @@ use Rattle.qk_captures.specs.declared.walk.Walk.{Walk}
 use Rattle.qk_captures.specs.Scoping.{in_scope, with_one, with_all, inside_arrow, block_names, outside_of, back_to}
 use Rattle.qk_captures.specs.Walking.{Note, note_of, noted, all_noted, behind, none_found, each_found, marked_found, field_found, attribute_found, operand_found, link_found, links_found, returned_found, arrow_of, arrow_found, block_found, for_found}
 use Rattle.qk_captures.proofs.Scopes.{Same, in_scope_all, in_scope_inside, back_from_all, back_from_arrow}
-use Rattle.qk_captures.proofs.Alike.{notes, both_noted, all_alike, alike, statement_alike, block_alike, body_alike}
+use Rattle.qk_captures.proofs.Alike.{notes, both_noted, statement_alike, block_alike, body_alike}
 
 -- ---- the walk
 

@@ -6,15 +6,8 @@ use Rattle.qk_ast.specs.Texts.{Text, same_text}
 use Rattle.qk_ast.specs.Names.{others_than, patterns_names, declared_by}
 use Rattle.qk_ast.specs.Arrows as arrows
 use Rattle.qk_ast.specs.Walking.{with_name}
-use Rattle.qk_captures.specs.declared.mark.Mark.{Mark}
-use Rattle.qk_captures.specs.declared.mark.Mark.TheVariants.{Unmarked, Marked, Tasked}
 use Rattle.qk_captures.specs.declared.scope.Scope.{Scope}
 use Rattle.qk_captures.specs.declared.scope.Outside.{Outside}
-
-abbrev pub mark_of : Mark → arrows.Mark
-mark_of Unmarked = arrows.Unmarked
-mark_of Marked = arrows.Marked
-mark_of Tasked = arrows.Tasked
 
 -- whether an arrow with this mark is a dollar arrow
 abbrev pub is_dollar_mark : arrows.Mark → Bool

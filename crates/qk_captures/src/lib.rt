@@ -4,7 +4,6 @@
 ghost use Rattle.std.specs.Prelude.{◌≡◌, IfOk};
 ghost use Rattle.qk_captures.specs.Capturing.{captured_in};
 
-mod mark;
 mod name_set;
 mod scope;
 mod walk;

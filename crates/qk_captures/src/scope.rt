@@ -2,11 +2,12 @@
 
 ghost use Rattle.std.specs.Prelude.{◌≡◌, [], ◌∷◌, ◌++◌, flat_map, OnOk, IfOk};
 ghost use Rattle.qk_ast.specs.Names.{is_listed, those_of, pattern_names, patterns_names, declared_by};
-ghost use Rattle.qk_captures.specs.Scoping.{mark_of, in_scope, with_one, with_all, inside_arrow, block_names, outside_of, back_to};
+ghost use Rattle.qk_locals.specs.Meanings.{mark_of};
+ghost use Rattle.qk_captures.specs.Scoping.{in_scope, with_one, with_all, inside_arrow, block_names, outside_of, back_to};
 
-use crate::mark::Mark;
 use crate::name_set::NameSet;
 use qk_ast::{Pattern, Stmt};
+use qk_locals::Mark;
 use qk_shared::{Builder, List, Text};
 use std::alloc::{AllocError, Global};
 

@@ -5,13 +5,14 @@ ghost use Rattle.std.specs.Prelude.{◌≡◌, suc, List, [], ◌∷◌, ◌++�
 ghost use Rattle.qk_ast.specs.Arrows.{arrows, statement_arrows, body_arrows, jsx_arrows, Unmarked as Anywhere};
 ghost use Rattle.qk_ast.specs.Names.{each_once, those_of};
 ghost use Rattle.qk_ast.specs.Uses.{free_names};
-ghost use Rattle.qk_captures.specs.Scoping.{mark_of, in_scope};
+ghost use Rattle.qk_locals.specs.Meanings.{mark_of};
+ghost use Rattle.qk_captures.specs.Scoping.{in_scope, is_dollar_mark};
 ghost use Rattle.qk_captures.specs.Walking.{Note, note_of, noted, behind, arrow_of, each_found, marked_found, field_found, attribute_found, operand_found, link_found, links_found, returned_found, arrow_found, block_found, for_found, item_found};
 
 use crate::Captured;
-use crate::mark::Mark;
 use crate::scope::Scope;
 use qk_ast::{Arrow, Body, Expr, Field, Item, Jsx, Link, Operand, Site, Stmt, free};
+use qk_locals::Mark;
 use qk_shared::{Builder, List, Text};
 use std::alloc::{AllocError, Global};
 
@@ -24,6 +25,17 @@ pub(crate) struct Walk<'a> {
     dollar: u32,
     plain: u32,
     found: Builder<Captured>,
+}
+
+/// Whether an arrow with this mark is a dollar arrow.
+fn is_dollar(mark: Mark) -> bool
+    ensures { result ≡ is_dollar_mark (mark_of mark) }
+{
+    match mark {
+        Mark::Unmarked => false,
+        Mark::Marked => true,
+        Mark::Tasked => true,
+    }
 }
 
 /// One more; `Err` where a `u32` doesn't hold it.
@@ -211,7 +223,7 @@ impl<'a> Walk<'a> {
         ensures { OnOk result (self.new ≡ behind (arrow_found arrow.now (mark_of mark)) self.old) }
     {
         let names = self.captured(arrow)?;
-        self.note(mark.is_dollar(), names)?;
+        self.note(is_dollar(mark), names)?;
         let outside = self.scope.outside();
         self.scope.enter_arrow(mark, arrow.params.as_slice())?;
         self.body(&arrow.body)?;

@@ -1,4 +1,4 @@
-use Rattle.std.proofs.Common.{◌+◌, drop, flat_map, refl, ap, ◌∙◌}
+use Rattle.std.proofs.Common.{◌+◌, drop, refl, ap, ◌∙◌}
 use Rattle.qk_ast.specs.Names.{declared_by}
 use Rattle.qk_captures.specs.Scoping.{with_all, block_names}
 use Rattle.qk_captures.proofs.Scopes.{scope_next}

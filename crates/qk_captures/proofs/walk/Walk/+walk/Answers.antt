@@ -1,6 +1,7 @@
 use Rattle.std.proofs.Common.{rules, ◌+◌, drop, ap, ◌∙◌}
-use Rattle.qk_ast.specs.Arrows.{Unmarked, attribute_mark, arrows, statement_arrows, body_arrows, jsx_arrows}
-use Rattle.qk_captures.specs.Scoping.{mark_of, inside_arrow, with_one}
+use Rattle.qk_ast.specs.Arrows.{Unmarked, attribute_mark, arrows, statement_arrows, body_arrows}
+use Rattle.qk_locals.specs.Meanings.{mark_of}
+use Rattle.qk_captures.specs.Scoping.{inside_arrow, with_one}
 use Rattle.qk_captures.specs.Walking.{behind, each_found, marked_found, field_found, attribute_found, operand_found, link_found, links_found}
 use Rattle.qk_captures.proofs.Walks.{behind_none, behind_next, behind_last, behind_next_link, behind_last_link, behind_arrow, behind_block, behind_for_block, behind_list, behind_record, behind_template, behind_unary, behind_chain, behind_choice, behind_post, behind_assign, behind_step, behind_known, behind_function, behind_element, behind_call, behind_jsx, behind_value, behind_body, behind_return, behind_if, behind_while, behind_for, behind_inner}
 use Rattle.qk_captures.proofs.walk.Walk.+walk.Goals as goal

@@ -1,6 +1,6 @@
 use Rattle.std.specs.Prelude.{◌≡◌, drop}
 use Rattle.qk_ast.specs.Arrows.{statement_arrows}
-use Rattle.qk_captures.specs.Scoping.{mark_of}
+use Rattle.qk_locals.specs.Meanings.{mark_of}
 use Rattle.qk_captures.specs.Walking.{behind, each_found, marked_found, field_found, attribute_found, operand_found, links_found}
 use Rattle.qk_captures.proofs.walk.Walk.+walk.Given as goal
 
