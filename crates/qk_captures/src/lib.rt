@@ -24,7 +24,7 @@ pub struct Captured {
 ///
 /// # Errors
 ///
-/// For want of memory. A text of 2 ^ 32 arrows of one kind, which no memory holds as a tree, is refused so too.
+/// For want of memory. So is refused, too, a tree of 2 ^ 32 arrows of one kind; no text has that many.
 pub fn captures(alloc: Global, file: &Text, m: &Module) -> Result<List<Captured>, AllocError>
     ensures { IfOk result (λ all. all ≡ captured_in file.now m.now) }
 {

@@ -1,6 +1,6 @@
 //! The names in scope at a place.
 
-ghost use Rattle.std.specs.Prelude.{◌≡◌, [], ◌∷◌, ◌++◌, flat_map, OnOk, IfOk};
+ghost use Rattle.std.specs.Prelude.{◌≡◌, [], ◌∷◌, ◌++◌, OnOk, IfOk};
 ghost use Rattle.qk_ast.specs.Names.{is_listed, those_of, pattern_names, patterns_names, declared_by};
 ghost use Rattle.qk_locals.specs.Meanings.{mark_of};
 ghost use Rattle.qk_captures.specs.Scoping.{in_scope, with_one, with_all, inside_arrow, block_names, outside_of, back_to};

@@ -1,13 +1,13 @@
 //! The walk that finds arrows.
 #![tactic(auto, using(crate::proofs::Walks::behind_none))]
 
-ghost use Rattle.std.specs.Prelude.{◌≡◌, suc, List, [], ◌∷◌, ◌++◌, OnOk, IfOk};
+ghost use Rattle.std.specs.Prelude.{◌≡◌, suc, [], OnOk, IfOk};
 ghost use Rattle.qk_ast.specs.Arrows.{arrows, statement_arrows, body_arrows, jsx_arrows, Unmarked as Anywhere};
 ghost use Rattle.qk_ast.specs.Names.{each_once, those_of};
 ghost use Rattle.qk_ast.specs.Uses.{free_names};
 ghost use Rattle.qk_locals.specs.Meanings.{mark_of};
 ghost use Rattle.qk_captures.specs.Scoping.{in_scope, is_dollar_mark};
-ghost use Rattle.qk_captures.specs.Walking.{Note, note_of, noted, behind, arrow_of, each_found, marked_found, field_found, attribute_found, operand_found, link_found, links_found, returned_found, arrow_found, block_found, for_found, item_found};
+ghost use Rattle.qk_captures.specs.Walking.{noted, behind, each_found, marked_found, field_found, attribute_found, operand_found, link_found, links_found, returned_found, arrow_found, block_found, for_found, item_found};
 
 use crate::Captured;
 use crate::scope::Scope;
