@@ -1,0 +1,10 @@
+//! The rules of names: what each name of a module means, and the first use or declaration that is refused.
+#![tactic(auto)]
+
+mod declaring;
+mod fault;
+mod framework;
+mod rules;
+mod using;
+
+pub use fault::ScopeFault;
