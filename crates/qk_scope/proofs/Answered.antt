@@ -1,5 +1,5 @@
 -- What is answered of parts one after another.
-use Rattle.std.specs.Prelude.{◌≡◌, refl, Bool, true, false, ◌||◌, List, [], ◌∷◌, ◌++◌, flat_map, Option, Some, None, Result, Ok, Err}
+use Rattle.std.specs.Prelude.{◌≡◌, refl, Bool, true, false, ◌||◌, not, List, [], ◌∷◌, ◌++◌, flat_map, Option, Some, None, Result, Ok, Err}
 use Rattle.std.proofs.Common.{sym, ◌∙◌, ap, subst, true≢false}
 use Rattle.std.proofs.lemmas.List.{append_assoc, append-nil}
 use Rattle.qk_ast.specs.declared.ScopeKind.{ScopeKind}
@@ -7,7 +7,7 @@ use Rattle.qk_ast.specs.declared.ScopeKind.TheVariants.{DuplicateName}
 use Rattle.qk_ast.specs.Texts.{Text}
 use Rattle.qk_ast.specs.Names.{is_listed}
 use Rattle.qk_ast.specs.Framework.{is_taken}
-use Rattle.qk_ast.specs.Mentions.{Mention, declared_after}
+use Rattle.qk_ast.specs.Mentions.{Mention, Declares, declared_after}
 use Rattle.qk_ast.specs.Naming.{Naming_breach, breach_if, naming_breaches}
 use Rattle.qk_scope.specs.declared.fault.ScopeFault.{ScopeFault}
 use Rattle.qk_scope.specs.declared.rules.Rules.{Rules}
@@ -77,3 +77,29 @@ none xs h = h
 pub finished : (xs : List Naming_breach) → xs ≡ [] → Answers {T = Unit {0}} xs (Ok tt)
 unfolding Answers
 finished xs h = h
+
+-- ---- one mention
+
+pub none_broken : (r : Rules) → Answers {T = Unit {0}} (breaches r []) (Ok tt)
+unfolding Answers breaches
+none_broken r = refl
+
+pub use_fails : (r : Rules) (m : Mention) (name : Text) (kind : ScopeKind) (fault : ScopeFault) → first_of (naming_breaches r.form r.file.now r.roots m) ≡ breach_by name (Some kind)
+    → Blames kind name fault → Answers {T = Unit {0}} (breaches r (m ∷ [])) (Err fault)
+unfolding Answers breaches
+use_fails r m name kind fault first blame = let all = naming_breaches r.form r.file.now r.roots m in subst (λ xs. Faults xs fault) (sym (append-nil all)) (fails all name kind fault first blame)
+
+pub use_passes : (r : Rules) (m : Mention) (name : Text) → first_of (naming_breaches r.form r.file.now r.roots m) ≡ breach_by name None → Answers {T = Unit {0}} (breaches r (m ∷ [])) (Ok tt)
+unfolding Answers breaches
+use_passes r m name first = let all = naming_breaches r.form r.file.now r.roots m in append-nil all ∙ passes all first
+
+-- ---- one declaration
+
+pub one_declared : (r : Rules) (name : Text) (earlier : List Text) (refused : Bool) (answer : Result (Unit {0}) ScopeFault) → refused ≡ (is_listed name earlier || is_taken name)
+    → Answers (breach_if refused DuplicateName name) answer → Answers (breaches r (Declares name earlier ∷ [])) answer
+one_declared r name earlier refused answer is h = let b = breach_if (is_listed name earlier || is_taken name) DuplicateName name in
+    subst (λ xs. Answers xs answer) (ap (λ b. breach_if b DuplicateName name) is ∙ sym (append-nil b) ∙ sym (breaches_declared r earlier (name ∷ []))) h
+
+pub new_alike : (l t : Bool) → ((l || not true) || t) ≡ (l || t)
+new_alike true t = refl
+new_alike false t = refl

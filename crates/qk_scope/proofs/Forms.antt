@@ -27,7 +27,7 @@ use Rattle.qk_ast.specs.Arrows.{Mark, Unmarked, call_mark}
 use Rattle.qk_ast.specs.Scopes.{Scope, declarations, declarations_of, block_scope, behind}
 use Rattle.qk_ast.specs.Mentions.{Mention, Uses, Declares, declared_after, mentions, all_mentions, field_mentions, attribute_mentions, operand_mentions, link_mentions, jsx_mentions, tag_mentions, statement_mentions, block_mentions, body_mentions, name_in}
 use Rattle.qk_locals.specs.Layers.{block_of, for_of, own}
-use Rattle.qk_scope.specs.Parts.{part_of, field_part, attribute_part, operand_part, link_part, links_part, target_part, returned_part, arrow_part, row_part, block_part, statement_part, statements_part, body_part}
+use Rattle.qk_scope.specs.Parts.{part_of, field_part, attribute_part, operand_part, link_part, links_part, target_part, returned_part, arrow_part, row_part, block_part, statement_part, statements_part, body_part, for_part}
 
 -- ---- rows are their lists
 
@@ -184,7 +184,7 @@ while_parts x ss [] inside = absurd (omega arith)
 while_parts x ss (scope ∷ outer) inside = ap (λ ms. mentions x Unmarked (scope ∷ outer) ++ ms) (block_row ss (scope ∷ outer))
 
 pub for_parts : (name : Text) (x : Expr) (ss : List Stmt) (scopes : List Scope) → 0 < length scopes
-    → statement_part scopes (s.ForOf name x ss) ≡ Declares name [] ∷ (mentions x Unmarked (for_of name false ∷ scopes) ++ block_part (for_of name true ∷ scopes) ss)
+    → statement_part scopes (s.ForOf name x ss) ≡ for_part name x ss scopes
 for_parts name x ss [] inside = absurd (omega arith)
 for_parts name x ss (scope ∷ outer) inside = ap (λ ms. Declares name [] ∷ (mentions x Unmarked (for_of name false ∷ scope ∷ outer) ++ ms)) (block_row ss (for_of name true ∷ scope ∷ outer))
 

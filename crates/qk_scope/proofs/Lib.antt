@@ -1,3 +1,4 @@
 pub mod Answered
 pub mod Declared
 pub mod Forms
+pub mod Walked

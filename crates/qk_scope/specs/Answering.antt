@@ -5,10 +5,12 @@ use Rattle.qk_ast.specs.declared.ScopeKind.TheVariants.{DuplicateName}
 use Rattle.qk_ast.specs.Texts.{Text}
 use Rattle.qk_ast.specs.Names.{is_listed}
 use Rattle.qk_ast.specs.Framework.{is_taken}
+use Rattle.qk_ast.specs.Scopes.{Scope}
 use Rattle.qk_ast.specs.Mentions.{Mention}
 use Rattle.qk_ast.specs.Naming.{Naming_breach, breach_if, naming_breaches}
 use Rattle.qk_scope.specs.declared.fault.ScopeFault.{ScopeFault}
 use Rattle.qk_scope.specs.declared.rules.Rules.{Rules}
+use Rattle.qk_scope.specs.declared.keeper.Keeper.{Keeper}
 
 -- the fault is the refusal of such a breach, or want of memory
 unfoldable pub Blames : ScopeKind → Text → ScopeFault → Type 0
@@ -28,6 +30,10 @@ Answers breaches (Err fault) = Faults breaches fault
 -- the breaches of these mentions
 unfoldable pub breaches : Rules → List Mention → List Naming_breach
 breaches rules all = flat_map (naming_breaches rules.form rules.file.now rules.roots) all
+
+-- the breaches where the walk stands, of what is mentioned in the scopes around it
+abbrev pub broken : Keeper → (List Scope → List Mention) → List Naming_breach
+broken k part = breaches k.rules (part k.scopes)
 
 -- the breaches of names that are declared one after another, behind earlier ones
 abbrev pub declared_breaches : (earlier : List Text) → List Text → List Naming_breach

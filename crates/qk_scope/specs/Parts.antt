@@ -1,5 +1,5 @@
 -- The mentions of what the tree holds in lists, and those in the innermost of the scopes around.
-use Rattle.std.specs.Prelude.{List, [], ◌∷◌, ◌++◌, drop, Option, Some, None, true}
+use Rattle.std.specs.Prelude.{List, [], ◌∷◌, ◌++◌, drop, Option, Some, None, true, false}
 use Rattle.qk_ast.specs.declared.Expr.{Expr}
 use Rattle.qk_ast.specs.declared.Field.{Field}
 use Rattle.qk_ast.specs.declared.Operand.{Operand}
@@ -7,11 +7,12 @@ use Rattle.qk_ast.specs.declared.Link.{Link}
 use Rattle.qk_ast.specs.declared.Stmt.{Stmt}
 use Rattle.qk_ast.specs.declared.Body.{Body}
 use Rattle.qk_ast.specs.declared.Arrow.{Arrow}
+use Rattle.qk_ast.specs.Texts.{Text}
 use Rattle.qk_ast.specs.Names.{patterns_names}
 use Rattle.qk_ast.specs.Arrows.{Mark, Unmarked, attribute_mark}
 use Rattle.qk_ast.specs.Scopes.{Scope, arrow_scope, behind}
-use Rattle.qk_ast.specs.Mentions.{Mention, Uses, declared_after, mentions, all_mentions, statement_mentions, body_mentions, name_in}
-use Rattle.qk_locals.specs.Layers.{block_of, own}
+use Rattle.qk_ast.specs.Mentions.{Mention, Uses, Declares, declared_after, mentions, all_mentions, statement_mentions, body_mentions, name_in}
+use Rattle.qk_locals.specs.Layers.{block_of, for_of, own}
 
 abbrev pub part_of : Mark → List Scope → Expr → List Mention
 part_of mark scopes x = mentions x mark scopes
@@ -69,3 +70,7 @@ statements_part scopes statements = row_part (own scopes) (drop 1 scopes) statem
 
 abbrev pub body_part : List Scope → Body → List Mention
 body_part scopes body = body_mentions body (own scopes) (drop 1 scopes)
+
+-- a `for`: in its list the name's declaration hasn't ended yet
+abbrev pub for_part : Text → Expr → List Stmt → List Scope → List Mention
+for_part name x statements scopes = Declares name [] ∷ (mentions x Unmarked (for_of name false ∷ scopes) ++ block_part (for_of name true ∷ scopes) statements)

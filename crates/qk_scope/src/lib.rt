@@ -4,6 +4,7 @@
 mod declaring;
 mod fault;
 mod framework;
+mod keeper;
 mod rules;
 mod using;
 
