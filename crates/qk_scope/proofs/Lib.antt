@@ -1,3 +1,5 @@
 pub mod Answered
+pub mod Chained
 pub mod Declared
 pub mod Forms
+pub mod Rooted

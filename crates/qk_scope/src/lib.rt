@@ -4,7 +4,10 @@
 mod declaring;
 mod fault;
 mod framework;
+mod importing;
+mod roots;
 mod rules;
+mod symbols;
 mod using;
 
 pub use fault::ScopeFault;
