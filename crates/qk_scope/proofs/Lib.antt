@@ -3,3 +3,4 @@ pub mod Chained
 pub mod Declared
 pub mod Forms
 pub mod Rooted
+pub mod Read

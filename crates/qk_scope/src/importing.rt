@@ -26,6 +26,13 @@ fn is_taken_from(form: Form, source: &Text, name: &Text) -> bool
     is_taken(name.as_str()) && !(source.as_str() == FRAMEWORK && may_import(form, name.as_str()))
 }
 
+/// Whether the root can't have an import of the name more: it is not new there, it is taken, or it spells a symbol.
+fn is_refused(form: Form, source: &Text, is_new: bool, name: &Text) -> bool
+    ensures { result ≡ ((not is_new || (framework.is_taken name.now && not (same_text source.now framework.framework && framework.may_import form name.now))) || framework.is_symbol name.now) }
+{
+    !is_new || is_taken_from(form, source, name) || is_symbol(name.as_str())
+}
+
 /// A name that is imported from this source, behind the earlier names of the root.
 fn import_name<'a>(
     rules: &Rules<'a>,
@@ -37,12 +44,10 @@ fn import_name<'a>(
     ensures earlier { OnOk result (earlier.new ≡ earlier.old ++ name.now ∷ []) }
 {
     let is_new = earlier.add(name.as_str())?;
-    let is_refused =
-        !is_new || is_taken_from(rules.form, source, name) || is_symbol(name.as_str());
-    refuse_if(is_refused, name)
+    refuse_if(is_refused(rules.form, source, is_new, name), name)
 }
 
-/// The names of one import.
+/// These names of an import.
 fn import_names<'a>(
     rules: &Rules<'a>,
     earlier: &mut NameSet<'a>,
@@ -58,6 +63,18 @@ fn import_names<'a>(
     Ok(())
 }
 
+/// One import.
+fn import_one<'a>(
+    rules: &Rules<'a>,
+    earlier: &mut NameSet<'a>,
+    import: &'a Import,
+) -> Result<(), ScopeFault>
+    ensures rules { Answers (breaches rules.now (imported_after import.now.from earlier.old import.now.names)) result }
+    ensures earlier { OnOk result (earlier.new ≡ earlier.old ++ import.now.names) }
+{
+    import_names(rules, earlier, &import.from, import.names.as_slice())
+}
+
 /// The imports of a module, one after another.
 pub(crate) fn imports<'a>(
     rules: &Rules<'a>,
@@ -68,7 +85,7 @@ pub(crate) fn imports<'a>(
     ensures earlier { OnOk result (earlier.new ≡ earlier.old ++ mentions.import_names imports.now) }
 {
     for import in imports {
-        import_names(rules, earlier, &import.from, import.names.as_slice())?;
+        import_one(rules, earlier, import)?;
     }
     Ok(())
 }

@@ -5,6 +5,7 @@ ghost use Rattle.qk_ast.specs.Mentions.{import_names, item_names};
 ghost use Rattle.qk_ast.specs.Names.{others_than};
 ghost use Rattle.qk_ast.specs.Naming as naming;
 ghost use Rattle.qk_ast.specs.Walking.{with_names};
+ghost use Rattle.qk_scope.specs.RootNames.{own_names};
 
 use crate::symbols::is_segment;
 use qk_ast::{Form, Import, Item, Module};
@@ -12,7 +13,7 @@ use qk_locals::NameSet;
 use qk_shared::Text;
 use std::alloc::{AllocError, Global};
 
-/// The names that a use at the root may mean. That of a segment's own item is none of them.
+/// The names of the root that a use may mean. That of a segment's own item is none of them.
 pub(crate) fn root_names<'a>(
     alloc: Global,
     form: Form,
@@ -23,12 +24,23 @@ pub(crate) fn root_names<'a>(
 {
     let mut names = NameSet::new(alloc);
     add_imported(&mut names, m.imports.as_slice())?;
-    if is_segment(form, file) {
-        add_items_but(&mut names, file, m.items.as_slice())?;
-    } else {
-        add_items(&mut names, m.items.as_slice())?;
-    }
+    add_own(&mut names, form, file, m.items.as_slice())?;
     Ok(names)
+}
+
+/// The names of the items that a use may mean.
+fn add_own<'a>(
+    names: &mut NameSet<'a>,
+    form: Form,
+    file: &Text,
+    items: &'a [Item],
+) -> Result<(), AllocError>
+    ensures { OnOk result (names.new ≡ with_names names.old (own_names form file.now items.now)) }
+{
+    if is_segment(form, file) {
+        return add_items_but(names, file, items);
+    }
+    add_items(names, items)
 }
 
 /// The names that these imports import.
