@@ -5,6 +5,7 @@ mod declaring;
 mod fault;
 mod framework;
 mod importing;
+mod items;
 mod roots;
 mod rules;
 mod symbols;
