@@ -4,6 +4,8 @@ ghost use Rattle.std.specs.Prelude.{◌≡◌, map};
 ghost use Rattle.qk_ast.specs.Texts.{is_among};
 ghost use Rattle.qk_ast.specs.Framework as framework;
 
+use qk_ast::Form;
+
 /// The names that a module may import from the framework.
 const FRAMEWORK_NAMES: [&str; 11] = [
     "$",
@@ -55,4 +57,20 @@ fn is_one_of(text: &str, texts: &[&str]) -> bool
         }
     }
     false
+}
+
+/// The names whose calls a built file has in another form.
+const LIFTED_NAMES: [&str; 4] = ["$", "component$", "useComputed$", "useTask$"];
+
+/// Whether a module or built file may import the name from the framework.
+pub(crate) fn may_import(form: Form, name: &str) -> bool
+    ensures { result ≡ framework.may_import form name.now }
+{
+    match form {
+        Form::Source => is_one_of(name, &FRAMEWORK_NAMES),
+        Form::Built => {
+            is_one_of(name, &BUILT_NAMES)
+                || is_one_of(name, &FRAMEWORK_NAMES) && !is_one_of(name, &LIFTED_NAMES)
+        }
+    }
 }

@@ -4,8 +4,12 @@
 mod declaring;
 mod fault;
 mod framework;
+mod importing;
+mod items;
 mod keeper;
+mod roots;
 mod rules;
+mod symbols;
 mod using;
 
 pub use fault::ScopeFault;
