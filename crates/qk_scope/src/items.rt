@@ -31,7 +31,7 @@ fn is_refused(form: Form, file: &Text, is_new: bool, name: &Text) -> bool
 }
 
 /// The name of an item, behind the earlier names of the root.
-fn item_name<'a>(
+pub(crate) fn item_name<'a>(
     rules: &Rules<'a>,
     earlier: &mut NameSet<'a>,
     name: &'a Text,

@@ -7,6 +7,7 @@ mod framework;
 mod importing;
 mod items;
 mod keeper;
+mod resolver;
 mod roots;
 mod rules;
 mod symbols;
