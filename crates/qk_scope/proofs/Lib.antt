@@ -2,6 +2,7 @@ pub mod Answered
 pub mod Chained
 pub mod Declared
 pub mod Forms
-pub mod Walked
-pub mod Rooted
 pub mod Read
+pub mod Resolved
+pub mod Rooted
+pub mod Walked

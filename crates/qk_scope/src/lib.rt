@@ -14,3 +14,7 @@ mod symbols;
 mod using;
 
 pub use fault::ScopeFault;
+pub use resolver::{Names, resolve};
+
+#[cfg(test)]
+mod tests;

@@ -1,4 +1,4 @@
-//! The rules of names, tried on a whole module.
+//! The rules of names, tried on a whole module, and what is known where they are kept.
 
 ghost use Rattle.std.specs.Prelude.{◌≡◌, [], ◌∷◌, ◌++◌, OnOk};
 ghost use Rattle.qk_ast.specs.Arrows.{Unmarked};
@@ -6,6 +6,7 @@ ghost use Rattle.qk_ast.specs.Mentions as mentions;
 ghost use Rattle.qk_ast.specs.Mentions.{mentions, item_mentions};
 ghost use Rattle.qk_ast.specs.Naming.{all_naming_breaches};
 ghost use Rattle.qk_scope.specs.Answering.{Answers, breaches};
+ghost use Rattle.qk_scope.specs.Resolving.{Resolves};
 
 use crate::ScopeFault;
 use crate::importing::imports;
@@ -14,9 +15,30 @@ use crate::keeper::Keeper;
 use crate::roots::root_names;
 use crate::rules::Rules;
 use qk_ast::{Form, Item, Module};
+use qk_captures::{Captured, captures};
 use qk_locals::{Mark, NameSet};
-use qk_shared::Text;
+use qk_shared::{List, Text};
 use std::alloc::Global;
+
+/// What is known of the names of a module: for each arrow, in text order, its site and its captures.
+#[derive(Drop)]
+pub struct Names {
+    pub captures: List<Captured>,
+}
+
+/// The names of a module or built file of that name, whose names keep the rules.
+///
+/// # Errors
+///
+/// `Refused` for the first name, in the order of the text, that breaks a rule; `Memory` for want of memory.
+pub fn resolve(alloc: Global, file: &Text, m: &Module, form: Form) -> Result<Names, ScopeFault>
+    ensures { Resolves form file.now m.now result }
+{
+    keeps_names(alloc, file, m, form)?;
+    Ok(Names {
+        captures: captures(alloc, file, m)?,
+    })
+}
 
 /// Tries the rules of names on a module or built file of that name.
 pub(crate) fn keeps_names(
