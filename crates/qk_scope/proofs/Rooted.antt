@@ -12,9 +12,9 @@ use Rattle.qk_ast.specs.Naming.{Naming_breach, breach_if, local_breaches, root_b
 
 abbrev meant : Text → Bool → Bool → Option Local → Bool → List Naming_breach
 meant name assigned fixed local known = elim fixed [
-    | true ↦ breach_if true UnknownName name
-    | false ↦ elim local [ Some l ↦ local_breaches name assigned l | None ↦ root_breaches name assigned known ]
-  ]
+  | true ↦ breach_if true UnknownName name
+  | false ↦ elim local [ Some l ↦ local_breaches name assigned l | None ↦ root_breaches name assigned known ]
+]
 
 module _ (form : Form) (file : Text) (a b : List Text) (same : (q : Text) → is_listed q a ≡ is_listed q b) where
   mention_rooted : (m : Mention) → naming_breaches form file a m ≡ naming_breaches form file b m
