@@ -1,6 +1,6 @@
 -- Names that are declared one after another.
 use Rattle.std.specs.Prelude.{◌≡◌, refl, ℕ, ◌+◌, ◌<◌, Bool, true, false, ◌||◌, not, List, [], ◌∷◌, ◌++◌, length, drop, Result, Ok, Err, OnOk}
-use Rattle.std.proofs.Common.{sym, ◌∙◌, ap, subst}
+use Rattle.std.proofs.Common.{sym, ◌∙◌, ap}
 use Rattle.std.proofs.Math.ListN.{get_or}
 use Rattle.std.proofs.lemmas.List.{append_assoc, append-nil, at_drop_more}
 use Rattle.qk_ast.specs.declared.ScopeKind.{ScopeKind}
@@ -8,7 +8,7 @@ use Rattle.qk_ast.specs.declared.ScopeKind.TheVariants.{DuplicateName}
 use Rattle.qk_ast.specs.Texts.{Text}
 use Rattle.qk_ast.specs.Names.{is_listed}
 use Rattle.qk_ast.specs.Framework.{is_taken}
-use Rattle.qk_ast.specs.Naming.{Naming_breach, breach_if}
+use Rattle.qk_ast.specs.Naming.{breach_if}
 use Rattle.qk_ast.specs.Walking.{with_name}
 use Rattle.qk_ast.proofs.Bound.{listed_both}
 use Rattle.qk_scope.specs.declared.fault.ScopeFault.{ScopeFault}

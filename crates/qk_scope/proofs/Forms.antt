@@ -1,5 +1,5 @@
 -- The mentions of each form of the tree: those of its parts, one after another.
-use Rattle.std.specs.Prelude.{◌≡◌, refl, ℕ, ◌<◌, Bool, true, false, List, [], ◌∷◌, ◌++◌, length, drop, flat_map, Option, Some, None}
+use Rattle.std.specs.Prelude.{◌≡◌, refl, ◌<◌, Bool, true, false, List, [], ◌∷◌, ◌++◌, length, drop, flat_map, Option, Some, None}
 use Rattle.std.proofs.Common.{sym, ◌∙◌, ap, arith}
 use Rattle.std.proofs.lemmas.List.{append-nil}
 use denote.Hole.Carrier.{hidden, roll}
@@ -10,7 +10,6 @@ use Rattle.qk_ast.specs.declared.Stmt.{Stmt}
 use Rattle.qk_ast.specs.declared.Stmt.TheVariants as s
 use Rattle.qk_ast.specs.declared.Link.{Link}
 use Rattle.qk_ast.specs.declared.Link.TheVariants as l
-use Rattle.qk_ast.specs.declared.Body.{Body}
 use Rattle.qk_ast.specs.declared.Arrow.{Arrow}
 use Rattle.qk_ast.specs.declared.Body.TheVariants as b
 use Rattle.qk_ast.specs.declared.Un.{Un}
@@ -25,7 +24,7 @@ use Rattle.qk_ast.specs.Texts.{Text}
 use Rattle.qk_ast.specs.Names.{pattern_names}
 use Rattle.qk_ast.specs.Arrows.{Mark, Unmarked, call_mark}
 use Rattle.qk_ast.specs.Scopes.{Scope, declarations, declarations_of, block_scope, behind}
-use Rattle.qk_ast.specs.Mentions.{Mention, Uses, Declares, declared_after, mentions, all_mentions, field_mentions, attribute_mentions, operand_mentions, link_mentions, jsx_mentions, tag_mentions, statement_mentions, block_mentions, body_mentions, name_in}
+use Rattle.qk_ast.specs.Mentions.{Mention, Declares, declared_after, mentions, all_mentions, field_mentions, attribute_mentions, operand_mentions, link_mentions, jsx_mentions, tag_mentions, statement_mentions, block_mentions}
 use Rattle.qk_locals.specs.Layers.{block_of, for_of, own}
 use Rattle.qk_scope.specs.Parts.{part_of, field_part, attribute_part, operand_part, link_part, links_part, target_part, returned_part, arrow_part, row_part, block_part, statement_part, statements_part, body_part, for_part}
 

@@ -9,7 +9,7 @@ use Rattle.qk_ast.specs.Arrows.{Mark, Unmarked}
 use Rattle.qk_ast.specs.Scopes.{Scope}
 use Rattle.qk_ast.specs.Mentions.{Mention}
 use Rattle.qk_ast.specs.Naming.{Naming_breach}
-use Rattle.qk_locals.specs.Layers.{own, passed}
+use Rattle.qk_locals.specs.Layers.{passed}
 use Rattle.qk_scope.specs.declared.rules.Rules.{Rules}
 use Rattle.qk_scope.specs.declared.keeper.Keeper.{Keeper}
 use Rattle.qk_scope.specs.declared.fault.ScopeFault.{ScopeFault}

@@ -1,5 +1,5 @@
 -- What is answered of the breaches at a part of a module.
-use Rattle.std.specs.Prelude.{◌≡◌, Bool, ◌||◌, List, [], ◌∷◌, ◌++◌, flat_map, Option, Some, None, Result, Ok, Err}
+use Rattle.std.specs.Prelude.{◌≡◌, ◌||◌, List, [], ◌∷◌, ◌++◌, flat_map, Option, Some, None, Result, Ok, Err}
 use Rattle.qk_ast.specs.declared.ScopeKind.{ScopeKind}
 use Rattle.qk_ast.specs.declared.ScopeKind.TheVariants.{DuplicateName}
 use Rattle.qk_ast.specs.Texts.{Text}

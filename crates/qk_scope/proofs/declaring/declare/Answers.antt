@@ -7,7 +7,7 @@ use Rattle.qk_ast.specs.Framework as framework
 use Rattle.qk_ast.specs.Naming.{breach_if}
 use Rattle.qk_locals.specs.Layers.{own}
 use Rattle.qk_scope.specs.declared.fault.ScopeFault.TheVariants.{Memory}
-use Rattle.qk_scope.specs.Answering.{Answers, declared_breaches}
+use Rattle.qk_scope.specs.Answering.{Answers}
 use Rattle.qk_scope.proofs.Answered.{wanted}
 use Rattle.qk_scope.proofs.Declared.{refused_as, added_if}
 use Rattle.qk_scope.proofs.declaring.declare.Goals as goal

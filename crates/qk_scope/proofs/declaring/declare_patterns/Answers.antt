@@ -1,4 +1,4 @@
-use Rattle.std.proofs.Common.{rules, ◌≡◌, ◌+◌, [], ◌∷◌, ◌++◌, ◌∙◌, sym, ap, refl, drop, Err}
+use Rattle.std.proofs.Common.{rules, ◌≡◌, ◌++◌, ◌∙◌, sym, ap, refl, Err}
 use Rattle.std.proofs.lemmas.List.{at_drop_all}
 use Rattle.qk_ast.specs.Names.{pattern_names, patterns_names}
 use Rattle.qk_locals.specs.Layers.{own}

@@ -1,6 +1,5 @@
-use Rattle.std.proofs.Common.{[], refl, subst, sym, ap}
+use Rattle.std.proofs.Common.{[], refl}
 use Rattle.qk_ast.specs.declared.ScopeKind.TheVariants.{DuplicateName}
-use Rattle.qk_ast.specs.Naming.{breach_if}
 use Rattle.qk_scope.specs.Answering.{Answers}
 use Rattle.qk_scope.proofs.Answered.{blamed}
 use Rattle.qk_scope.proofs.declaring.refuse_if.Goals as goal

@@ -1,4 +1,4 @@
-use Rattle.std.proofs.Common.{rules, ◌≡◌, [], ◌∷◌, ◌++◌, ◌∙◌, sym, ap, subst, not, OnOk, Err, ◌&&◌, ◌||◌}
+use Rattle.std.proofs.Common.{rules, ◌≡◌, [], ◌∷◌, ◌++◌, ◌∙◌, sym, ap, subst, not, OnOk, Err, ◌&&◌}
 use Rattle.qk_ast.specs.declared.ScopeKind.TheVariants.{DuplicateName}
 use Rattle.qk_ast.specs.Names.{is_listed}
 use Rattle.qk_ast.specs.Walking.{with_name}

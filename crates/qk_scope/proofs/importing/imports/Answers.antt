@@ -1,5 +1,5 @@
-use Rattle.std.proofs.Common.{rules, ◌≡◌, [], ◌∷◌, ◌++◌, ◌∙◌, sym, refl, Err}
-use Rattle.qk_ast.specs.Mentions.{Imports, imported_after, import_mentions, import_names}
+use Rattle.std.proofs.Common.{rules, ◌≡◌, ◌∙◌, sym, refl, Err}
+use Rattle.qk_ast.specs.Mentions.{imported_after, import_mentions, import_names}
 use Rattle.qk_scope.proofs.Answered.{stopped, none, finished}
 use Rattle.qk_scope.proofs.Declared.{names_on}
 use Rattle.qk_scope.proofs.Chained.{chained_next, chained_on, chained_last}

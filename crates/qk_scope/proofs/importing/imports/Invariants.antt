@@ -1,5 +1,5 @@
 use Rattle.std.specs.Prelude.{◌≡◌, drop, ◌++◌}
-use Rattle.qk_ast.specs.Mentions.{imported_after, import_mentions, import_names}
+use Rattle.qk_ast.specs.Mentions.{import_mentions, import_names}
 use Rattle.qk_scope.specs.Answering.{breaches}
 use Rattle.qk_scope.proofs.importing.imports.Given as goal
 

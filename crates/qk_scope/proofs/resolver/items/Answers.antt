@@ -1,4 +1,4 @@
-use Rattle.std.proofs.Common.{rules, ◌≡◌, ◌+◌, [], ◌∷◌, ◌++◌, ◌∙◌, sym, ap, refl, subst, drop, Ok, Err}
+use Rattle.std.proofs.Common.{rules, ◌≡◌, ◌+◌, [], ◌∷◌, ◌∙◌, sym, ap, refl, subst, drop, Err}
 use Rattle.qk_ast.specs.Arrows.{Unmarked}
 use Rattle.qk_ast.specs.Mentions.{Roots, mentions, item_mentions}
 use Rattle.qk_scope.specs.Answering.{Answers, breaches}

@@ -1,4 +1,4 @@
-use Rattle.std.proofs.Common.{rules, ◌≡◌, [], ◌∷◌, refl, Ok, Err}
+use Rattle.std.proofs.Common.{rules, [], ◌∷◌, refl}
 use Rattle.qk_ast.specs.Arrows.{Unmarked}
 use Rattle.qk_ast.specs.Mentions.{Roots, mentions}
 use Rattle.qk_scope.proofs.Walked.{fails_first, second}

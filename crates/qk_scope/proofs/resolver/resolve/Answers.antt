@@ -1,5 +1,4 @@
-use Rattle.std.proofs.Common.{rules, ◌≡◌, Err}
-use Rattle.qk_scope.specs.declared.fault.ScopeFault.TheVariants.{Memory}
+use Rattle.std.proofs.Common.{rules}
 use Rattle.qk_scope.proofs.Resolved.{refuses, wants, resolved}
 use Rattle.qk_scope.proofs.resolver.resolve.Goals as goal
 

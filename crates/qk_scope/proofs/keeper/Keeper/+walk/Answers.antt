@@ -1,4 +1,4 @@
-use Rattle.std.proofs.Common.{rules, ◌≡◌, ◌+◌, [], ◌∷◌, ◌++◌, drop, flat_map, length, ◌<◌, ap, refl, sym, subst, ◌∙◌, true, false, Ok, Err}
+use Rattle.std.proofs.Common.{rules, ◌+◌, [], ◌∷◌, ◌++◌, drop, flat_map, length, ◌<◌, ap, refl, sym, subst, ◌∙◌, true, false}
 use Rattle.qk_ast.specs.declared.Jsx.{out-Jsx}
 use Rattle.qk_ast.specs.Names.{pattern_names, patterns_names}
 use Rattle.qk_ast.specs.Arrows.{Unmarked, call_mark}
