@@ -1,4 +1,5 @@
 pub mod Bits
+pub mod Feeds
 pub mod Sourcing
 pub mod Exporting_more
 pub mod Listed

@@ -1,3 +1,6 @@
+//! Why the modules of an application, or the imports of one, aren't told.
+
+use crate::Place;
 use qk_parse::ParseFault;
 use qk_shared::Text;
 use std::alloc::{AllocError, AllocFailed};
@@ -13,8 +16,12 @@ pub enum GatherFault {
     ExportMissing { module: Text, name: Text },
     /// The module's file isn't UTF-8.
     NotUtf8 { module: Text },
-    /// The module's text derives none.
-    Parse { module: Text, fault: ParseFault },
+    /// The module's text derives none. The place of the fault is told by line and column; of a text that is too long it is the beginning.
+    Parse {
+        module: Text,
+        fault: ParseFault,
+        place: Place,
+    },
     /// There is a 257th module.
     TooMany,
     /// The store failed.

@@ -1,6 +1,6 @@
 use Rattle.std.proofs.Common.{ap, ◌∙◌, suc, length}
-use Rattle.qk_top.specs.Places.{feeds, after_feeds, line_at, column_at}
-use Rattle.qk_top.proofs.place.place_at.Goals as goal
+use Rattle.qk_modules.specs.Places.{feeds, after_feeds, line_at, column_at}
+use Rattle.qk_modules.proofs.place.place_at.Goals as goal
 
 pub returns-clause-line : goal.returns-clause-line
 unfolding line_at
