@@ -6,3 +6,5 @@ pub mod Listed
 pub mod Gatherings
 pub mod Texts_refused
 pub mod Turnings
+pub mod Alike
+pub mod Excluded
