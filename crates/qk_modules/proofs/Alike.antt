@@ -72,8 +72,8 @@ same_module files x y of_x of_y e =
 -- How two that were read behind the same stand to one another: they are the same, or one goes on behind the other.
 pub data Standing (files : Files) (before a b : List Read_module) : Type 0 where
   same : a ≡ b → Standing files before a b
-  first_on : {m : Read_module} {more : List Read_module} → a ≡ b ++ m ∷ more → IsNext (before ++ b) (source_of m.name) → IsRead files m → Standing files before a b
-  second_on : {m : Read_module} {more : List Read_module} → b ≡ a ++ m ∷ more → IsNext (before ++ a) (source_of m.name) → IsRead files m → Standing files before a b
+  first_on : {m : Read_module} (more : List Read_module) → a ≡ b ++ m ∷ more → IsNext (before ++ b) (source_of m.name) → IsRead files m → Standing files before a b
+  second_on : {m : Read_module} (more : List Read_module) → b ≡ a ++ m ∷ more → IsNext (before ++ a) (source_of m.name) → IsRead files m → Standing files before a b
 
 next_behind : (before rest : List Read_module) (x : Read_module) (source : Text) → IsNext ((before ++ x ∷ []) ++ rest) source → IsNext (before ++ x ∷ rest) source
 next_behind before rest x source h = subst (λ l. IsNext l source) (append_assoc before (x ∷ []) rest) h
@@ -81,15 +81,15 @@ next_behind before rest x source h = subst (λ l. IsNext l source) (append_assoc
 -- behind one that both read
 behind_one : (files : Files) (before a b : List Read_module) (x : Read_module) → Standing files (before ++ x ∷ []) a b → Standing files before (x ∷ a) (x ∷ b)
 behind_one files before a b x (same e) = same (ap (λ l. x ∷ l) e)
-behind_one files before a b x (first_on {m = m} {more = more} e next read) = first_on {m = m} {more = more} (ap (λ l. x ∷ l) e) (next_behind before b x (source_of m.name) next) read
-behind_one files before a b x (second_on {m = m} {more = more} e next read) = second_on {m = m} {more = more} (ap (λ l. x ∷ l) e) (next_behind before a x (source_of m.name) next) read
+behind_one files before a b x (first_on {m = m} more e next read) = first_on {m = m} more (ap (λ l. x ∷ l) e) (next_behind before b x (source_of m.name) next) read
+behind_one files before a b x (second_on {m = m} more e next read) = second_on {m = m} more (ap (λ l. x ∷ l) e) (next_behind before a x (source_of m.name) next) read
 
 pub standing : (files : Files) (before a b : List Read_module) → InTurn before a → InTurn before b → AreRead files a → AreRead files b → Standing files before a b
 standing files before [] [] turns_a turns_b read_a read_b = same refl
 standing files before (x ∷ a) [] turns_a turns_b read_a read_b =
-    first_on {m = x} {more = a} refl (subst (λ l. IsNext l (source_of x.name)) (sym (append-nil before)) turns_a.0) read_a.0
+    first_on {m = x} a refl (subst (λ l. IsNext l (source_of x.name)) (sym (append-nil before)) turns_a.0) read_a.0
 standing files before [] (y ∷ b) turns_a turns_b read_a read_b =
-    second_on {m = y} {more = b} refl (subst (λ l. IsNext l (source_of y.name)) (sym (append-nil before)) turns_b.0) read_b.0
+    second_on {m = y} b refl (subst (λ l. IsNext l (source_of y.name)) (sym (append-nil before)) turns_b.0) read_b.0
 standing files before (x ∷ a) (y ∷ b) turns_a turns_b read_a read_b =
     let e : x ≡ y = same_module files x y read_a.0 read_b.0 (some_is (source_of x.name) (source_of y.name) (sym turns_a.0 ∙ turns_b.0)) in
     subst (λ z. Standing files before (x ∷ a) (z ∷ b)) e

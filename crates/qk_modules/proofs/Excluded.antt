@@ -1,7 +1,7 @@
 -- The ways in which a gathering over the same files ends exclude one another.
-use Rattle.std.specs.Prelude.{◌≡◌, ◌<◌, ◌≤◌, ◌⊎◌, inl, inr, refl, ℕ, false, IsFalse, List, [], ◌∷◌, ◌++◌, map, length, All, Option, Some, None, Result, Ok, Err}
+use Rattle.std.specs.Prelude.{◌≡◌, ◌<◌, ◌≤◌, ◌⊎◌, refl, ℕ, ◌+◌, true, false, IsFalse, List, [], ◌∷◌, ◌++◌, map, length, All, Option, Some, None, Result, Ok, Err}
 use Rattle.std.specs.Str.{IsUtf8}
-use Rattle.std.proofs.Common.{ap, sym, subst, ◌∙◌, arith}
+use Rattle.std.proofs.Common.{ap, sym, subst, ◌∙◌, arith, inl, inr}
 use Rattle.std.proofs.lemmas.Bool.{false≢true}
 use Rattle.std.proofs.lemmas.List.{length-map, length-append}
 use Rattle.std.proofs.lemmas.List.Elements.{All-head}
@@ -26,13 +26,13 @@ use Rattle.qk_modules.proofs.Alike.{IsRead, AreRead, are_read, last_told, bytes_
 
 -- ---- the next of the list, and that there is none
 
-whole_not_next : (read : List Read_module) (source : Text) → IsWhole read → IsNext read source → ⊥
+pub whole_not_next : (read : List Read_module) (source : Text) → IsWhole read → IsNext read source → ⊥
 whole_not_next read source whole next =
     let within : length read < length (listed (map named read)) = slice_get_within (listed (map named read)) (length read) source next in
     let many : length read ≡ length (listed (map named read)) = sym (length-map read (λ m. source_of m.name)) ∙ ap length whole in
     omega (arith, within, many)
 
-source_is_one : (a b : Text) → Some a ≡ Some b → a ≡ b
+pub source_is_one : (a b : Text) → Some a ≡ Some b → a ≡ b
 source_is_one a b h = cc
 
 -- ---- the turn of a module that was read isn't refused
@@ -43,7 +43,7 @@ not_gone t h = cc
 not_long : (t : Text) → too_long ≡ bytes t → ⊥
 not_long t h = cc
 
-derived_none : (t : Text) (m : Module) (fault : ParseFault) → ¬ (fault ≡ parse.Memory) → NoneDerived Source t fault → Derives Source t m → ⊥
+pub derived_none : (t : Text) (m : Module) (fault : ParseFault) → ¬ (fault ≡ parse.Memory) → NoneDerived Source t fault → Derives Source t m → ⊥
 derived_none t m parse.TooLong known none d = none m d
 derived_none t m (parse.Lexical at) known none d = none m d
 derived_none t m (parse.Syntax at) known none d = none m d
@@ -70,7 +70,7 @@ module _ (files : Files) (m : Read_module) (read : IsRead files m) where
         ∙ ap (λ (n : Text). reading (files (file_of n)) 1048576) name_is
         ∙ sym read.told
 
-    turn_fails : (modules : List NamedModule) (last : List Answer) (fault : GatherFault) → length modules < 256 → RefusedTurn modules source last fault → All (IsTold files) last → IsFailure fault
+    pub turn_fails : (modules : List NamedModule) (last : List Answer) (fault : GatherFault) → length modules < 256 → RefusedTurn modules source last fault → All (IsTold files) last → IsFailure fault
     turn_fails modules last fault few (no_source none) told = absurd (false≢true (sym none ∙ good))
     turn_fails modules last fault few (no_file of_module) told = absurd (not_gone m.text (found_is gone told))
     turn_fails modules last fault few (long of_module) told = absurd (not_long m.text (found_is too_long told))
@@ -99,7 +99,7 @@ Fails (Err fault) = IsFailure fault
 none_some : (p : Text × Text) → None ≡ Some p → ⊥
 none_some p h = cc
 
-fewer : (a b more : List Read_module) (m : Read_module) → a ≡ b ++ m ∷ more → length a ≤ 256 → length (map named b) < 256
+pub fewer : (a b more : List Read_module) (m : Read_module) → a ≡ b ++ m ∷ more → length a ≤ 256 → length (map named b) < 256
 fewer a b more m e few =
     let many : length a ≡ length (b ++ m ∷ more) = ap length e in
     let parts : length (b ++ m ∷ more) ≡ length b + length (m ∷ more) = length-append b (m ∷ more) in
@@ -109,14 +109,14 @@ fewer a b more m e few =
 module _ (files : Files) (a : List Read_module) (few : length a ≤ 256) (whole : IsWhole a) (exported : first_missing (map named a) ≡ None) where
   refused_fails : (b : List Read_module) (source : Text) (last : List Answer) (fault : GatherFault) → Standing files [] a b → IsNext b source → RefusedTurn (map named b) source last fault → All (IsTold files) last → IsFailure fault
   refused_fails b source last fault (same e) next why told = absurd (whole_not_next b source (subst IsWhole e whole) next)
-  refused_fails b source last fault (first_on {m = m} {more = more} e next_one read) next why told =
+  refused_fails b source last fault (first_on {m = m} more e next_one read) next why told =
       turn_fails files m read source (source_is_one source (source_of m.name) (sym next ∙ next_one)) (map named b) last fault (fewer a b more m e few) why told
-  refused_fails b source last fault (second_on {m = m} e next_one read) next why told = absurd (whole_not_next a (source_of m.name) whole next_one)
+  refused_fails b source last fault (second_on {m = m} more e next_one read) next why told = absurd (whole_not_next a (source_of m.name) whole next_one)
 
   not_unexported : (b : List Read_module) (p : Text × Text) → Standing files [] a b → IsWhole b → first_missing (map named b) ≡ Some p → ⊥
   not_unexported b p (same e) whole_b missing = none_some p (sym exported ∙ ap (λ l. first_missing (map named l)) e ∙ missing)
-  not_unexported b p (first_on {m = m} e next read) whole_b missing = whole_not_next b (source_of m.name) whole_b next
-  not_unexported b p (second_on {m = m} e next read) whole_b missing = whole_not_next a (source_of m.name) whole next
+  not_unexported b p (first_on {m = m} more e next read) whole_b missing = whole_not_next b (source_of m.name) whole_b next
+  not_unexported b p (second_on {m = m} more e next read) whole_b missing = whole_not_next a (source_of m.name) whole next
 
   ends_fail : (b : List Read_module) (last : List Answer) (result : Result Modules GatherFault) → Standing files [] a b → Ends b last result → All (IsTold files) last → Fails result
   ends_fail b last result stand (all whole_b exported_b) told = tt
@@ -126,7 +126,7 @@ module _ (files : Files) (a : List Read_module) (few : length a ≤ 256) (whole 
 
 -- ---- the laws
 
-stand_over : (files : Files) (one two : Result Modules GatherFault) (g : GathersOver files one) (h : GathersOver files two) → Standing files [] g.read h.read
+pub stand_over : (files : Files) (one two : Result Modules GatherFault) (g : GathersOver files one) (h : GathersOver files two) → Standing files [] g.read h.read
 stand_over files one two g h =
     standing files [] g.read h.read g.front.turns h.front.turns (are_read files g.read g.last g.front g.told) (are_read files h.read h.last h.front h.told)
 
@@ -137,8 +137,8 @@ gathered_or_refused files a fault g h =
 
 same_read : (files : Files) (a b : List Read_module) → Standing files [] a b → IsWhole a → IsWhole b → a ≡ b
 same_read files a b (same e) whole_a whole_b = e
-same_read files a b (first_on {m = m} e next read) whole_a whole_b = absurd (whole_not_next b (source_of m.name) whole_b next)
-same_read files a b (second_on {m = m} e next read) whole_a whole_b = absurd (whole_not_next a (source_of m.name) whole_a next)
+same_read files a b (first_on {m = m} more e next read) whole_a whole_b = absurd (whole_not_next b (source_of m.name) whole_b next)
+same_read files a b (second_on {m = m} more e next read) whole_a whole_b = absurd (whole_not_next a (source_of m.name) whole_a next)
 
 abbrev modules_of : List Read_module → Modules
 modules_of read = record { list = map named read }

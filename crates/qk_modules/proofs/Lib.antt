@@ -8,3 +8,5 @@ pub mod Texts_refused
 pub mod Turnings
 pub mod Alike
 pub mod Excluded
+pub mod OneParseFault
+pub mod OneFault

@@ -17,3 +17,7 @@ IsFailure fault = (fault ≡ Store) ⊎ (fault ≡ Memory)
 -- an application that is gathered is refused by no fault of its own
 abbrev pub GatheredOrRefused : Type 0
 GatheredOrRefused = (files : Files) (a : Modules) (fault : GatherFault) → GathersOver files (Ok a) → GathersOver files (Err fault) → IsFailure fault
+
+-- an application is refused by one fault of its own
+abbrev pub OneFault : Type 0
+OneFault = (files : Files) (f g : GatherFault) → GathersOver files (Err f) → GathersOver files (Err g) → ¬ IsFailure f → ¬ IsFailure g → f ≡ g

@@ -1,6 +1,6 @@
 //! Laws of gathering. Each is the contract of a function that does nothing.
 
-ghost use Rattle.qk_modules.specs.Laws.{GatheredOrRefused, OneGathering};
+ghost use Rattle.qk_modules.specs.Laws.{GatheredOrRefused, OneFault, OneGathering};
 
 /// The same files hold one application at most.
 pub fn one_gathering()
@@ -10,4 +10,9 @@ pub fn one_gathering()
 /// An application that is gathered is refused only where the store fails or memory runs out.
 pub fn gathered_or_refused()
     ensures { GatheredOrRefused }
+{}
+
+/// An application is refused by one fault of its own.
+pub fn one_fault()
+    ensures { OneFault }
 {}

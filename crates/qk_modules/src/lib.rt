@@ -14,7 +14,7 @@ mod turn;
 
 pub use fault::{GatherFault, ModulesFault};
 pub use gatherer::gather;
-pub use laws::{gathered_or_refused, one_gathering};
+pub use laws::{gathered_or_refused, one_fault, one_gathering};
 pub use modules::{Modules, NamedModule};
 pub use place::Place;
 pub use table::imports;
