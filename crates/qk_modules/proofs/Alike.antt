@@ -1,5 +1,5 @@
 -- Over the same files two gatherings read the same modules, as far as both go.
-use Rattle.std.specs.Prelude.{◌≡◌, refl, IsTrue, List, [], ◌∷◌, ◌++◌, map, All, Option, Some}
+use Rattle.std.specs.Prelude.{◌≡◌, refl, IsTrue, List, [], ◌∷◌, ◌++◌, map, All, Some}
 use Rattle.std.specs.Str.{IsUtf8}
 use Rattle.std.proofs.Common.{ap, sym, subst, ◌∙◌}
 use Rattle.std.proofs.lemmas.List.{append-nil, append_assoc}
@@ -37,12 +37,14 @@ each_read files (m ∷ read) last names utf8 derived told =
       utf8 = All-head (λ (m : Read_module). IsUtf8 m.text) m read utf8;
       derived = All-head (λ (m : Read_module). Derives Source m.text m.tree) m read derived;
       told = All-head (IsTold files) (read_of m) (map read_of read ++ last) told;
-    } in
-    (one, each_read files read last
-    (All-tail (λ (m : Read_module). IsTrue (is_module_name m.name)) m read names)
-    (All-tail (λ (m : Read_module). IsUtf8 m.text) m read utf8)
-    (All-tail (λ (m : Read_module). Derives Source m.text m.tree) m read derived)
-    (All-tail (IsTold files) (read_of m) (map read_of read ++ last) told))
+    } in (
+      one,
+      each_read files read last
+          (All-tail (λ (m : Read_module). IsTrue (is_module_name m.name)) m read names)
+          (All-tail (λ (m : Read_module). IsUtf8 m.text) m read utf8)
+          (All-tail (λ (m : Read_module). Derives Source m.text m.tree) m read derived)
+          (All-tail (IsTold files) (read_of m) (map read_of read ++ last) told),
+    )
 
 pub are_read : (files : Files) (read : List Read_module) (last : List Answer) → IsFront read → All (IsTold files) (map read_of read ++ last) → AreRead files read
 are_read files read last front told = each_read files read last front.names front.utf8 front.derived told

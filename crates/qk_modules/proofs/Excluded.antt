@@ -1,5 +1,5 @@
 -- The ways in which a gathering over the same files ends exclude one another.
-use Rattle.std.specs.Prelude.{◌≡◌, ◌<◌, ◌≤◌, ◌⊎◌, refl, ℕ, ◌+◌, true, false, IsFalse, List, [], ◌∷◌, ◌++◌, map, length, All, Option, Some, None, Result, Ok, Err}
+use Rattle.std.specs.Prelude.{◌≡◌, ◌<◌, ◌≤◌, refl, ℕ, ◌+◌, true, false, List, [], ◌∷◌, ◌++◌, map, length, All, Option, Some, None, Result, Ok, Err}
 use Rattle.std.specs.Str.{IsUtf8}
 use Rattle.std.proofs.Common.{ap, sym, subst, ◌∙◌, arith, inl, inr}
 use Rattle.std.proofs.lemmas.Bool.{false≢true}
@@ -19,10 +19,10 @@ use Rattle.qk_parse.specs.Parsing.{NoneDerived}
 use Rattle.qk_modules.specs.declared.modules.NamedModule.{NamedModule}
 use Rattle.qk_modules.specs.declared.modules.Modules.{Modules}
 use Rattle.qk_modules.specs.declared.fault.GatherFault.{GatherFault}
-use Rattle.qk_modules.specs.Gathering.{file_of, source_of, listed, Read_module, named, IsFront, IsWhole, IsNext, read_as, read_of, IsTold, first_missing, RefusedText, not_utf8, unparsed, too_many, want, RefusedTurn, no_source, no_file, long, text, failed, want_behind, Ends, all, unexported, refused, Gathers, GathersOver}
+use Rattle.qk_modules.specs.Gathering.{file_of, source_of, listed, Read_module, named, IsWhole, IsNext, read_as, read_of, IsTold, first_missing, RefusedText, not_utf8, unparsed, too_many, want, RefusedTurn, no_source, no_file, long, text, failed, want_behind, Ends, all, unexported, refused, Gathers, GathersOver}
 use Rattle.qk_modules.specs.Laws.{OneGathering, GatheredOrRefused, IsFailure}
 use Rattle.qk_modules.proofs.Sourcing.{module_of_source, is_source_of}
-use Rattle.qk_modules.proofs.Alike.{IsRead, AreRead, are_read, last_told, bytes_is, Standing, same, first_on, second_on, standing}
+use Rattle.qk_modules.proofs.Alike.{IsRead, are_read, last_told, bytes_is, Standing, same, first_on, second_on, standing}
 
 -- ---- the next of the list, and that there is none
 

@@ -1,10 +1,9 @@
 -- Over the same files an application is refused by one fault of its own.
-use Rattle.std.specs.Prelude.{◌≡◌, ◌⊎◌, refl, ℕ, ◌≤◌, true, false, List, [], ◌∷◌, ◌++◌, map, length, All, Option, Some, None, Result, Ok, Err}
+use Rattle.std.specs.Prelude.{◌≡◌, ◌⊎◌, refl, ℕ, ◌≤◌, true, false, List, [], ◌∷◌, ◌++◌, map, length, All, Some, Result, Ok, Err}
 use Rattle.std.proofs.Common.{ap, sym, subst, ◌∙◌, inl, inr}
 use Rattle.std.proofs.lemmas.Bool.{false≢true}
 use Rattle.std.proofs.lemmas.List.Elements.{All-head}
 use Rattle.qk_ast.specs.declared.Form.TheVariants.{Source}
-use Rattle.qk_ast.specs.declared.Module.{Module}
 use Rattle.qk_ast.specs.Texts.{Text}
 use Rattle.qk_ast.specs.Sources.{source_module, is_module_source}
 use Rattle.qk_store.specs.Files.{Files}
@@ -17,7 +16,7 @@ use Rattle.qk_modules.specs.declared.modules.Modules.{Modules}
 use Rattle.qk_modules.specs.declared.fault.GatherFault.{GatherFault}
 use Rattle.qk_modules.specs.declared.fault.GatherFault.TheVariants.{ExportMissing, Parse}
 use Rattle.qk_modules.specs.Places.{place_of, beginning}
-use Rattle.qk_modules.specs.Gathering.{file_of, source_of, Read_module, named, IsFront, IsWhole, IsNext, read_as, read_of, IsTold, first_missing, absence, RefusedText, not_utf8, unparsed, too_many, want, RefusedTurn, no_source, no_file, long, text, failed, want_behind, Ends, all, unexported, refused, GathersOver}
+use Rattle.qk_modules.specs.Gathering.{file_of, source_of, Read_module, named, IsWhole, IsNext, read_as, read_of, IsTold, first_missing, absence, RefusedText, not_utf8, unparsed, too_many, want, RefusedTurn, no_source, no_file, long, text, failed, want_behind, Ends, all, unexported, refused}
 use Rattle.qk_modules.specs.Laws.{OneFault, IsFailure}
 use Rattle.qk_modules.proofs.Alike.{IsRead, last_told, Standing, same, first_on, second_on}
 use Rattle.qk_modules.proofs.Excluded.{whole_not_next, derived_none, turn_fails, fewer, source_is_one, stand_over}

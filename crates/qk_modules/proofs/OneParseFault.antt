@@ -1,11 +1,11 @@
 -- A text is refused by one fault of the parser, at one place.
-use Rattle.std.specs.Prelude.{◌≡◌, refl, ℕ, ◌+◌, ◌≤◌, ◌<◌, true, false, ◌==◌, List, [], ◌∷◌, ◌++◌, length, chars, Option, Some, None, Result, Err, IsTrue}
+use Rattle.std.specs.Prelude.{◌≡◌, refl, ℕ, ◌+◌, true, false, List, [], ◌∷◌, ◌++◌, chars, Option, Some, None, Result, Err, IsTrue}
 use Rattle.std.proofs.Common.{ap, sym, subst, ◌∙◌, arith}
 use Rattle.std.proofs.lemmas.Bool.{false≢true}
 use Rattle.qk_ast.specs.declared.Form.{Form}
 use Rattle.qk_ast.specs.declared.Module.{Module}
 use Rattle.qk_ast.specs.Characters.{Characters}
-use Rattle.qk_ast.specs.Tokens.{Token, spelling, Blank, gap_spelling, is_blank_of, are_blanks, is_gap, Around, Braces, In_hole, In_tag, In_end, Children, after, Written, End, Then, written, stands, Tokens}
+use Rattle.qk_ast.specs.Tokens.{Token, spelling, Blank, gap_spelling, is_blank_of, are_blanks, is_gap, Around, Braces, In_hole, In_tag, In_end, Children, after, Written, End, Then, written, stands}
 use Rattle.qk_ast.specs.Faults.{LexicalAt, NothingBegins, around_after, last_of}
 use Rattle.qk_ast.specs.Derives.{deepest}
 use Rattle.qk_ast.proofs.FrontToken.{left, right}

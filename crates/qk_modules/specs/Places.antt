@@ -1,5 +1,5 @@
 -- The line of a byte in a text, and its column in that line; both count from 1, columns in bytes. The place of a fault.
-use Rattle.std.specs.Prelude.{ℕ, suc, Bool, false, ◌||◌, if◌then◌else◌, ◌==◌, List, [], ◌∷◌, length, take}
+use Rattle.std.specs.Prelude.{ℕ, suc, Bool, false, ◌||◌, if◌then◌else◌, ◌==◌, [], ◌∷◌, length, take}
 use Rattle.qk_ast.specs.Texts.{Text}
 use Rattle.qk_parse.specs.declared.parse.ParseFault.{ParseFault}
 use Rattle.qk_parse.specs.declared.parse.ParseFault.TheVariants.{TooLong, Lexical, Syntax, TooDeep, Memory}

@@ -180,11 +180,13 @@ fn told(alloc: Global, answer: &Result<Modules, GatherFault>) -> Result<String, 
             told_of(alloc, "ExportMissing", module.as_str(), name.as_str())
         }
         Err(GatherFault::NotUtf8 { module }) => told_of(alloc, "NotUtf8", module.as_str(), ""),
-        Err(GatherFault::Parse {
-            module,
-            fault,
-            place,
-        }) => {
+        Err(
+            GatherFault::Parse {
+                module,
+                fault,
+                place,
+            },
+        ) => {
             let at = format!(in alloc; "{}:{}", place.line, place.column)?;
             match fault {
                 ParseFault::TooLong => told_of(alloc, "TooLong", module.as_str(), at.as_str()),
