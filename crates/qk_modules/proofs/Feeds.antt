@@ -1,8 +1,8 @@
 -- Counting lines and columns from the front of a text.
 use Rattle.std.proofs.Common.{◌≡◌, ◌≤◌, ◌<◌, ◌+◌, ℕ, suc, Bool, true, false, List, [], ◌∷◌, refl, sym, ap, ◌∙◌, length, arith, ◌⊎◌, inl, inr}
 use Rattle.std.specs.Prelude.{if◌then◌else◌, ◌==◌, ◌||◌}
-use Rattle.qk_meaning.specs.Value.{Text}
-use Rattle.qk_top.specs.Places.{feeds, has_feed, after_feeds}
+use Rattle.qk_ast.specs.Texts.{Text}
+use Rattle.qk_modules.specs.Places.{feeds, has_feed, after_feeds}
 
 -- the line of what follows, where a line has begun before
 abbrev pub line_with : ℕ → Text → ℕ

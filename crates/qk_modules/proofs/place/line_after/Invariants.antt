@@ -1,7 +1,7 @@
 use Rattle.std.proofs.Common.{◌≡◌, ◌≤◌, ◌+◌, suc, length}
-use Rattle.qk_top.specs.Places.{feeds}
-use Rattle.qk_top.proofs.Feeds.{line_with}
-use Rattle.qk_top.proofs.place.line_after.Given as goal
+use Rattle.qk_modules.specs.Places.{feeds}
+use Rattle.qk_modules.proofs.Feeds.{line_with}
+use Rattle.qk_modules.proofs.place.line_after.Given as goal
 
 abbrev pub invariant-loop-rest : goal.invariant-loop-rest
 invariant-loop-rest l = (suc (feeds l.front) ≡ line_with l.line l.rest) × (l.line + length l.rest ≤ 1 + length l.front)

@@ -1,17 +1,35 @@
+//! Places in texts.
+
 ghost use Rattle.std.specs.Prelude.{◌≡◌, suc, length, take};
-ghost use Rattle.qk_top.specs.Places as spec;
+ghost use Rattle.qk_modules.specs.Places as spec;
+
+use qk_parse::ParseFault;
 
 /// A place in a text: a line, and a column of it in bytes, each counted from 1.
 #[derive(Clone, Copy, Debug, PartialEq, Eq)]
-pub(crate) struct Place {
-    pub(crate) line: u64,
-    pub(crate) column: u64,
+pub struct Place {
+    pub line: u64,
+    pub column: u64,
+}
+
+/// The beginning of a text.
+pub(crate) const BEGINNING: Place = Place { line: 1, column: 1 };
+
+/// The place of a fault of the text. Where that is too long, it is its beginning.
+pub(crate) fn place_of(text: &[u8], fault: ParseFault) -> Place
+    ensures { result ≡ spec.place_of text.now fault }
+{
+    match fault {
+        ParseFault::Lexical { at } => place_at(text, at),
+        ParseFault::Syntax { at } => place_at(text, at),
+        ParseFault::TooDeep { at } => place_at(text, at),
+        ParseFault::TooLong | ParseFault::Memory => BEGINNING,
+    }
 }
 
 /// The place of a byte of the text.
-pub(crate) fn place_at(text: &[u8], at: usize) -> Place
-    ensures line { result.line ≡ spec.line_at text.now at }
-    ensures column { result.column ≡ spec.column_at text.now at }
+fn place_at(text: &[u8], at: usize) -> Place
+    ensures { result ≡ spec.place_in text.now at }
 {
     let front = before(text, at);
     Place {
