@@ -1,0 +1,31 @@
+-- The rows of trees as the lists that they hold.
+use Rattle.std.specs.Prelude.{◌≡◌, refl, Bool, true, false, List, [], ◌∷◌, ◌++◌}
+use Rattle.std.proofs.Common.{sym, ◌∙◌, ap}
+use denote.Hole.Carrier.{hidden, roll}
+use Rattle.qk_ast.specs.declared.Body.TheBlock.{shape-the_row-Expr-0, hidden-the_row-Expr-0, hidden-the_row-Expr-2, hidden-the_row-Stmt-1, hidden-the_row-Field-3, hidden-the_row-Operand-4, hidden-the_row-Link-5}
+use Rattle.qk_ast.specs.declared.Expr.{Expr}
+use Rattle.qk_ast.specs.declared.Link.{Link}
+use Rattle.qk_ast.specs.declared.Link.TheVariants as l
+use Rattle.qk_ast.specs.Spots.{With, arguments_of, called, is_last, has_children}
+use Rattle.qk_rules.specs.Standings.{called_by, is_none_left}
+
+pub arguments_row : (xs : List Expr) → arguments_of (hidden-the_row-Expr-2 xs) ≡ xs
+unfolding hidden-the_row-Expr-2 hidden
+arguments_row [] = refl
+arguments_row (x ∷ xs) = ap (λ rest. x ∷ rest) (arguments_row xs)
+
+last_row : (ls : List Link) → is_last (hidden-the_row-Link-5 ls) ≡ is_none_left ls
+unfolding hidden-the_row-Link-5 hidden
+last_row [] = refl
+last_row (link ∷ ls) = refl
+
+pub called_row : (ls : List Link) → called (hidden-the_row-Link-5 ls) ≡ called_by ls
+unfolding hidden-the_row-Link-5 hidden
+called_row [] = refl
+called_row (Link.Prop name ∷ ls) = refl
+called_row (Link.Index x ∷ ls) = refl
+called_row (Link.Call' _ all ∷ ls) = ap (With (arguments_of all)) (last_row ls)
+
+-- a call in front of these links
+pub call_in_front : (xs : List Expr) (ls : List Link) → called_by (l.Call xs ∷ ls) ≡ With xs (is_none_left ls)
+call_in_front xs ls = ap (λ all. With all (is_none_left ls)) (arguments_row xs)

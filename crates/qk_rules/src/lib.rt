@@ -1,0 +1,7 @@
+//! The rules of places: which names, calls, tags and attributes may stand where, for modules as they are written.
+#![tactic(auto)]
+
+mod fault;
+mod standing;
+
+pub use fault::RuleFault;
