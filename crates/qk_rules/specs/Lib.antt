@@ -1,2 +1,4 @@
 pub mod Standings
 pub mod Checking
+pub mod Breaches
+pub mod Kinds_of_root
