@@ -1,6 +1,6 @@
 -- The rows of trees as the lists that they hold.
-use Rattle.std.specs.Prelude.{◌≡◌, refl, Bool, true, false, List, [], ◌∷◌, ◌++◌}
-use Rattle.std.proofs.Common.{sym, ◌∙◌, ap}
+use Rattle.std.specs.Prelude.{◌≡◌, refl, Bool, true, false, List, [], ◌∷◌, ◌++◌, ◌==◌, length}
+use Rattle.std.proofs.Common.{sym, ◌∙◌, ap, arith}
 use denote.Hole.Carrier.{hidden, roll}
 use Rattle.qk_ast.specs.declared.Body.TheBlock.{shape-the_row-Expr-0, hidden-the_row-Expr-0, hidden-the_row-Expr-2, hidden-the_row-Stmt-1, hidden-the_row-Field-3, hidden-the_row-Operand-4, hidden-the_row-Link-5}
 use Rattle.qk_ast.specs.declared.Expr.{Expr}
@@ -26,6 +26,13 @@ called_row (Link.Prop name ∷ ls) = refl
 called_row (Link.Index x ∷ ls) = refl
 called_row (Link.Call' _ all ∷ ls) = ap (With (arguments_of all)) (last_row ls)
 
+none_left : (ls : List Link) → (length ls == 0) ≡ is_none_left ls
+none_left [] = refl
+none_left (link ∷ ls) = grind arith
+
 -- a call in front of these links
-pub call_in_front : (xs : List Expr) (ls : List Link) → called_by (l.Call xs ∷ ls) ≡ With xs (is_none_left ls)
-call_in_front xs ls = ap (λ all. With all (is_none_left ls)) (arguments_row xs)
+pub call_told : (links : List Link) (first : Link) (later : List Link) (xs arguments : List Expr) (whole : Bool)
+    → links ≡ first ∷ later → first ≡ l.Call xs → arguments ≡ xs → whole ≡ (length later == 0) → With arguments whole ≡ called_by links
+call_told links first later xs arguments whole split is_call same last =
+    ap (λ all. With all whole) (same ∙ sym (arguments_row xs)) ∙ ap (With (arguments_of (hidden-the_row-Expr-2 xs))) (last ∙ none_left later)
+    ∙ ap (λ link. called_by (link ∷ later)) (sym is_call) ∙ ap called_by (sym split)
