@@ -3,6 +3,8 @@ use Rattle.std.specs.Prelude.{Bool, true, false, ◌&&◌, List, [], ◌∷◌, 
 use Rattle.qk_ast.specs.declared.RuleKind.{RuleKind}
 use Rattle.qk_ast.specs.declared.Expr.{Expr}
 use Rattle.qk_ast.specs.declared.Field.{Field}
+use Rattle.qk_ast.specs.declared.Un.{Un}
+use Rattle.qk_ast.specs.declared.Un.TheVariants as un
 use Rattle.qk_ast.specs.Texts.{Text}
 use Rattle.qk_ast.specs.Placing.{Placing_breach, is_data}
 
@@ -16,9 +18,10 @@ first_breach (b ∷ rest) = Some b
 
 -- ---- data
 
-abbrev pub is_number : Expr → Bool
-is_number (Expr.Int n) = true
-is_number _ = false
+-- a number behind a minus
+abbrev pub is_negative : Un → Expr → Bool
+is_negative un.Neg (Expr.Int n) = true
+is_negative _ _ = false
 
 abbrev pub all_data : List Expr → Bool
 all_data [] = true

@@ -5,7 +5,7 @@ ghost use Rattle.std.specs.Option.{option_copied, option_map};
 ghost use Rattle.qk_ast.specs.Spots.{With};
 ghost use Rattle.qk_ast.specs.Tags as tags;
 ghost use Rattle.qk_ast.specs.Placing as placing;
-ghost use Rattle.qk_rules.specs.Breaches.{breach, first_breach, is_number, all_data, field_data};
+ghost use Rattle.qk_rules.specs.Breaches.{breach, first_breach, is_negative, all_data, field_data};
 ghost use Rattle.qk_rules.specs.Kinds_of_root.{root_kind_of};
 ghost use Rattle.qk_rules.specs.Standings.{called_of};
 
@@ -51,7 +51,7 @@ fn made_by(name: &str, arguments: &[Expr]) -> RootKind
 
 /// The kind of what is called so, where a name is called.
 fn called_kind(name: Option<&Text>, call: Called) -> RootKind
-    ensures { root_kind_of result ≡ placing.called_kind (option_copied name) (called_of call) }
+    ensures { root_kind_of result ≡ placing.called_kind (option_copied name.entry) (called_of call.entry) }
 {
     let Some(name) = name else {
         return RootKind::Other;
@@ -75,10 +75,14 @@ pub(crate) fn kind_of_value(x: &Expr) -> RootKind
     }
 }
 
-fn is_number(x: &Expr) -> bool
-    ensures { result ≡ is_number x.now }
+/// Whether it is a number behind a minus.
+fn is_negative(op: Un, x: &Expr) -> bool
+    ensures { result ≡ is_negative op x.now }
 {
-    matches!(x, Expr::Int(_))
+    match op {
+        Un::Neg => matches!(x, Expr::Int(_)),
+        Un::Not => false,
+    }
 }
 
 #[cycle(data)]
@@ -87,7 +91,7 @@ fn is_data(x: &Expr) -> bool
 {
     match x {
         Expr::Undefined | Expr::Null | Expr::Bool(_) | Expr::Int(_) | Expr::Text(_) => true,
-        Expr::Unary(Un::Neg, value) => is_number(value.get()),
+        Expr::Unary(op, value) => is_negative(*op, value.get()),
         Expr::List(items) => are_data(items.as_slice()),
         Expr::Record(fields) => are_data_fields(fields.as_slice()),
         _ => false,
