@@ -2,3 +2,5 @@ pub mod Standings
 pub mod Checking
 pub mod Breaches
 pub mod Kinds_of_root
+pub mod Root_table
+pub mod Tables

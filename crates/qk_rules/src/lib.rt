@@ -3,7 +3,10 @@
 
 mod fault;
 mod items;
+mod kinds;
 mod listed;
+mod roots;
 mod standing;
 
 pub use fault::RuleFault;
+pub use kinds::Kinds;
