@@ -82,11 +82,66 @@ impl<'a> Kinds<'a> {
         }
         let mut table = Roots::new(self.alloc);
         table.add_items(m.items.as_slice())?;
+        let before = self.modules.len();
         self.modules.push((name, m))?;
-        if self.tables.insert(key, table).is_err() {
-            self.modules.pop();
-            return Err(AllocError);
+        match self.tables.insert(key, table) {
+            Ok(_) => Ok(()),
+            Err(_) => {
+                self.modules.truncate(before);
+                Err(AllocError)
+            }
+        }
+    }
+
+    /// The table of the module that the source names, if there is one.
+    fn table_of(&self, source: &str) -> Option<&Roots<'a>>
+        ensures { (q : List ℕ) → kind_from result q ≡ imported_kind self.now source.now q }
+    {
+        if source == FRAMEWORK {
+            return None;
+        }
+        self.tables.get(source_module(source.as_bytes()))
+    }
+
+    /// Gives the imported names their kinds.
+    fn add_imports<'m>(&self, roots: &mut Roots<'m>, imports: &'m [Import]) -> Result<(), AllocError>
+        ensures { OnOk result ((q : List ℕ) → kind_at roots.new q ≡ earlier_of (kind_at roots.old q) (import_kinds self.now imports.now q)) }
+    {
+        for import in imports {
+            let table = self.table_of(import.from.as_str());
+            roots.add_names(import.names.as_slice(), table)?;
         }
         Ok(())
     }
+
+    /// What the root of a module has under its names.
+    pub(crate) fn roots_of<'m>(&self, alloc: Global, m: &'m Module) -> Result<Roots<'m>, AllocError>
+        ensures { IfOk result (λ roots. (q : List ℕ) → kind_by roots q ≡ root_kind self.now m.now q) }
+    {
+        let mut roots = Roots::new(alloc);
+        self.add_imports(&mut roots, m.imports.as_slice())?;
+        roots.add_items(m.items.as_slice())?;
+        Ok(roots)
+    }
+}
+
+/// The name of the module that a source names: what stands behind its first two bytes, up to a point.
+fn source_module(source: &[u8]) -> &[u8]
+    ensures { result.now ≡ sources.source_module source.now }
+{
+    match source {
+        [_, _, rest @ ..] => up_to_dot(rest),
+        _ => &[],
+    }
+}
+
+fn up_to_dot(bytes: &[u8]) -> &[u8]
+    ensures { result.now ≡ sources.up_to_dot bytes.now }
+{
+    for at in 0..bytes.len() {
+        if bytes[at] == b'.' {
+            return &bytes[..at];
+        }
+    }
+    bytes
 }
