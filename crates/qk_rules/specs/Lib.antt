@@ -1,3 +1,5 @@
 pub mod Standings
 pub mod Checking
 pub mod Parts
+pub mod Breaches
+pub mod Kinds_of_root

@@ -2,6 +2,8 @@
 #![tactic(auto)]
 
 mod fault;
+mod items;
+mod listed;
 mod standing;
 
 pub use fault::RuleFault;
