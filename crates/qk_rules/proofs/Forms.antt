@@ -27,7 +27,7 @@ use Rattle.qk_ast.specs.Mentions.{name_in}
 use Rattle.qk_ast.specs.Spots.{Standing, Anywhere, Root_value, Hook_statement, Called, Spot, Item, Named, Tagged, Attributed, argument_of, called, has_children, where_hooks, const_standing, lets_hooks_follow, spots, all_spots, field_spots, operand_spots, link_spots, jsx_spots, attribute_spots, statement_spots, block_spots, body_spots, item_spots}
 use Rattle.qk_ast.specs.Placing.{Root_kind, Placing_breach, placing_breaches}
 use Rattle.qk_rules.specs.Standings.{called_by}
-use Rattle.qk_rules.specs.Parts.{Place, inside, broken, of_name, of_expression, of_field, of_operand, of_arguments, of_link, of_links, of_tag, of_attribute, of_attributes, of_markup, of_body, of_arrow, of_statement, of_statements, block_of, of_block, of_returned, of_repeated, of_item}
+use Rattle.qk_rules.specs.Parts.{Place, inside, broken, of_name, of_expression, of_field, of_operand, of_arguments, of_link, of_links, of_head, of_head_named, is_any, of_tag, of_attribute, of_attributes, of_markup, of_body, of_arrow, of_statement, of_statements, block_of, of_block, of_returned, of_repeated, of_item}
 use Rattle.qk_rules.proofs.Rows.{called_row}
 
 -- ---- spots one after another
@@ -145,26 +145,17 @@ unfolding of_expression shape-the_row-Expr-0 hidden-the_row-Expr-0 hidden
 of_choice p standing x y z = two p (spots x Anywhere p.scopes ++ []) ((spots y Anywhere p.scopes ++ []) ++ (spots z Anywhere p.scopes ++ [])) _ _ (alone p x)
     (two p (spots y Anywhere p.scopes ++ []) (spots z Anywhere p.scopes ++ []) _ _ (alone p y) (alone p z))
 
--- a head that is a name
-pub of_called : (p : Place) (standing : Standing) (head : Expr) (ls : List Link) (name : Text) → name_in head ≡ Some name
-    → of_expression p standing (e.Post head ls) ≡ of_name p name (called_by ls) standing ++ of_links p (Some name) ls
+pub of_post : (p : Place) (standing : Standing) (head : Expr) (ls : List Link) → of_expression p standing (e.Post head ls) ≡ of_head p head (called_by ls) standing ++ of_links p (name_in head) ls
 unfolding of_expression of_name shape-the_row-Expr-0 hidden-the_row-Expr-0 hidden
-of_called p standing head ls name named = ap (λ o. broken p (elim o as (λ _. List Spot) [
-      | Some name ↦ Named name (called (hidden-the_row-Link-5 ls)) standing p.scopes ∷ link_spots (hidden-the_row-Link-5 ls) (Some name) p.scopes
-      | None ↦ spots head Anywhere p.scopes ++ link_spots (hidden-the_row-Link-5 ls) None p.scopes
-    ])) named
-    ∙ two p (Named name (called (hidden-the_row-Link-5 ls)) standing p.scopes ∷ []) (link_spots (hidden-the_row-Link-5 ls) (Some name) p.scopes) _ _
-    (ap (λ call. broken p (Named name call standing p.scopes ∷ [])) (called_row ls)) (links_row p (Some name) ls)
-
--- another head
-pub of_reached : (p : Place) (standing : Standing) (head : Expr) (ls : List Link) → name_in head ≡ None
-    → of_expression p standing (e.Post head ls) ≡ of_expression p Anywhere head ++ of_links p None ls
-unfolding of_expression shape-the_row-Expr-0 hidden-the_row-Expr-0 hidden
-of_reached p standing head ls nameless = ap (λ o. broken p (elim o as (λ _. List Spot) [
-      | Some name ↦ Named name (called (hidden-the_row-Link-5 ls)) standing p.scopes ∷ link_spots (hidden-the_row-Link-5 ls) (Some name) p.scopes
-      | None ↦ spots head Anywhere p.scopes ++ link_spots (hidden-the_row-Link-5 ls) None p.scopes
-    ])) nameless
-    ∙ two p (spots head Anywhere p.scopes) (link_spots (hidden-the_row-Link-5 ls) None p.scopes) _ _ refl (links_row p None ls)
+of_post p standing head ls = by (name_in head)
+  where
+    by : (o : Option Text) → broken p (elim o as (λ _. List Spot) [
+          | Some name ↦ Named name (called (hidden-the_row-Link-5 ls)) standing p.scopes ∷ link_spots (hidden-the_row-Link-5 ls) (Some name) p.scopes
+          | None ↦ spots head Anywhere p.scopes ++ link_spots (hidden-the_row-Link-5 ls) None p.scopes
+        ]) ≡ of_head_named p o head (called_by ls) standing ++ of_links p o ls
+    by (Some name) = two p (Named name (called (hidden-the_row-Link-5 ls)) standing p.scopes ∷ []) (link_spots (hidden-the_row-Link-5 ls) (Some name) p.scopes) _ _
+        (ap (λ call. broken p (Named name call standing p.scopes ∷ [])) (called_row ls)) (links_row p (Some name) ls)
+    by None = two p (spots head Anywhere p.scopes) (link_spots (hidden-the_row-Link-5 ls) None p.scopes) _ _ refl (links_row p None ls)
 
 pub of_assign : (p : Place) (standing : Standing) (op : AssignOp) (target x : Expr) → of_expression p standing (e.Assign op target x) ≡ of_expression p Anywhere target ++ of_expression p Anywhere x
 unfolding of_expression shape-the_row-Expr-0 hidden-the_row-Expr-0 hidden
@@ -191,10 +182,6 @@ unfolding of_link
 of_call p callee xs = arguments_row p callee xs
 
 -- ---- elements
-
-abbrev is_any : List Expr → Bool
-is_any [] = false
-is_any (x ∷ rest) = true
 
 children_row : (xs : List Expr) → has_children (hidden-the_row-Expr-2 xs) ≡ is_any xs
 unfolding hidden-the_row-Expr-2 hidden

@@ -12,6 +12,7 @@ use Rattle.qk_ast.specs.declared.Pattern.{Pattern}
 use Rattle.qk_ast.specs.declared.Body.{Body}
 use Rattle.qk_ast.specs.Texts.{Text}
 use Rattle.qk_ast.specs.Scopes.{Scope, declarations_of, arrow_scope, for_scope}
+use Rattle.qk_ast.specs.Mentions.{name_in}
 use Rattle.qk_ast.specs.Spots.{Standing, Anywhere, Root_value, Argument, Called, Spot, Item, Named, Tagged, Attributed, argument_of, standing_mark, is_component_arrow, lets_hooks_follow, spots, all_spots, jsx_spots, statement_spots, body_spots}
 use Rattle.qk_ast.specs.Placing.{Root_kind, Placing_breach, placing_breaches}
 
@@ -56,7 +57,19 @@ abbrev pub of_links : Place → Option Text → List Link → List Placing_breac
 of_links p callee [] = []
 of_links p callee (link ∷ rest) = of_link p callee link ++ flat_map (of_link p None) rest
 
+-- what stands before links, by the name that it is, if it is one
+abbrev pub of_head_named : Place → Option Text → Expr → Called → Standing → List Placing_breach
+of_head_named p (Some name) head call standing = of_name p name call standing
+of_head_named p None head call standing = of_expression p Anywhere head
+
+abbrev pub of_head : Place → Expr → Called → Standing → List Placing_breach
+of_head p head call standing = of_head_named p (name_in head) head call standing
+
 -- ---- elements
+
+abbrev pub is_any : List Expr → Bool
+is_any [] = false
+is_any (x ∷ rest) = true
 
 unfoldable pub of_tag : Place → Tag → (children : Bool) → List Placing_breach
 of_tag p tag children = broken p (Tagged tag children p.scopes ∷ [])

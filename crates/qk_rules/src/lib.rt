@@ -2,8 +2,11 @@
 #![tactic(auto)]
 
 mod fault;
+mod hooks;
 mod items;
 mod listed;
+mod roots;
 mod standing;
+mod walk;
 
 pub use fault::RuleFault;
