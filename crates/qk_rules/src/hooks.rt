@@ -15,7 +15,7 @@ use qk_shared::Text;
 
 /// The mark of an arrow that stands so.
 pub(crate) fn mark_there(standing: Standing) -> Mark
-    ensures { mark_of result ≡ spots.standing_mark (standing_of standing) }
+    ensures { mark_of result ≡ spots.standing_mark (standing_of standing.entry) }
 {
     match standing {
         Standing::Argument { callee, first: _ } => Mark::of_name(callee.as_str()),
@@ -25,7 +25,7 @@ pub(crate) fn mark_there(standing: Standing) -> Mark
 
 /// Whether an arrow that stands so is a component's.
 pub(crate) fn is_component_arrow(standing: Standing) -> bool
-    ensures { result ≡ spots.is_component_arrow (standing_of standing) }
+    ensures { result ≡ spots.is_component_arrow (standing_of standing.entry) }
 {
     match standing {
         Standing::Argument { callee, first: _ } => callee.as_str() == "component$",
@@ -35,7 +35,7 @@ pub(crate) fn is_component_arrow(standing: Standing) -> bool
 
 /// How an argument of a call of that stands, where that is a name.
 pub(crate) fn argument_of(callee: Option<&Text>, first: bool) -> Standing<'_>
-    ensures { standing_of result ≡ spots.argument_of (option_copied callee) first }
+    ensures { standing_of result ≡ spots.argument_of (option_copied callee.entry) first }
 {
     match callee {
         Some(callee) => Standing::Argument { callee, first },
@@ -88,7 +88,7 @@ fn is_hook_call(x: &Expr) -> bool
 }
 
 fn names_hook(name: Option<&Text>) -> bool
-    ensures { result ≡ is_named statement_hooks (option_copied name) }
+    ensures { result ≡ is_named statement_hooks (option_copied name.entry) }
 {
     match name {
         Some(name) => is_statement_hook(name.as_str()),
@@ -97,7 +97,7 @@ fn names_hook(name: Option<&Text>) -> bool
 }
 
 fn is_whole_call(call: Called) -> bool
-    ensures { result ≡ spots.is_whole_call (called_of call) }
+    ensures { result ≡ spots.is_whole_call (called_of call.entry) }
 {
     match call {
         Called::NotCalled => false,
