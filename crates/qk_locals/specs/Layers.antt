@@ -1,11 +1,8 @@
 -- The scope that a layer stands for: what it is of, and which of its statements have passed.
-use Rattle.std.specs.Prelude.{Bool, true, false, List, [], ◌∷◌, ◌++◌, map, flat_map}
-use Rattle.std.specs.Borrow.{Bor}
-use Rattle.qk_ast.specs.declared.Pattern.{Pattern}
+use Rattle.std.specs.Prelude.{Bool, true, false, List, [], ◌∷◌, ◌++◌, flat_map}
 use Rattle.qk_ast.specs.declared.Stmt.{Stmt}
-use Rattle.qk_ast.specs.declared.Body.{Body}
 use Rattle.qk_ast.specs.Texts.{Text}
-use Rattle.qk_ast.specs.Scopes.{Scope, Declaration, declarations_of, names_declared, arrow_scope, for_scope, behind}
+use Rattle.qk_ast.specs.Scopes.{Scope, declarations_of, names_declared, arrow_scope, for_scope, behind}
 use Rattle.qk_locals.specs.declared.layer.Origin.{Origin}
 use Rattle.qk_locals.specs.Meanings.{mark_of}
 

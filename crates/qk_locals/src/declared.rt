@@ -79,7 +79,11 @@ impl<'a> Declared<'a> {
     }
 
     /// The names of an arrow's parameters.
-    pub(crate) fn add_parameters(&mut self, params: &'a [Pattern], kind: Kind) -> Result<(), AllocError>
+    pub(crate) fn add_parameters(
+        &mut self,
+        params: &'a [Pattern],
+        kind: Kind,
+    ) -> Result<(), AllocError>
         ensures { OnOk result (self.new ≡ with_declarations self.old (declared_as (kind_of kind) (patterns_names params.now))) }
     {
         for pattern in params {

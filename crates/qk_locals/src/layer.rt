@@ -109,7 +109,7 @@ impl<'a> Layer<'a> {
 
     /// The same scope behind this statement.
     pub(crate) fn behind(self, statement: &'a Stmt) -> Result<Layer<'a>, AllocError>
-        ensures { IfOk result (λ layer. layer ≡ behind statement.now self) }
+        ensures { IfOk result (λ layer. layer ≡ behind statement.now self.entry) }
     {
         let Layer {
             origin,

@@ -12,3 +12,6 @@ pub use local::{Kind, Local};
 pub use mark::Mark;
 pub use name_set::NameSet;
 pub use scopes::Scopes;
+
+#[cfg(test)]
+mod tests;

@@ -1,9 +1,9 @@
 //! The scopes around a place.
 
-ghost use Rattle.std.specs.Prelude.{◌≡◌, [], ◌∷◌, drop, OnOk};
+ghost use Rattle.std.specs.Prelude.{◌≡◌, [], ◌∷◌, drop, reverse, OnOk};
 ghost use Rattle.std.specs.Option.{option_map};
 ghost use Rattle.qk_ast.specs.Names.{is_listed};
-ghost use Rattle.qk_ast.specs.Scopes.{meaning, arrow_scope};
+ghost use Rattle.qk_ast.specs.Scopes.{meaning, meaning_from, arrow_scope};
 ghost use Rattle.qk_locals.specs.Meanings.{mark_of, local_of};
 ghost use Rattle.qk_locals.specs.Layers.{block_of, for_of, own, passed};
 
@@ -101,20 +101,7 @@ impl<'a> Scopes<'a> {
     pub fn meaning(&self, name: &str) -> Option<Local>
         ensures { option_map local_of result ≡ meaning name.now self.now }
     {
-        let mut layers = self.layers.as_slice();
-        let mut in_arrow = false;
-        while let Some((layer, outer)) = layers.split_last() {
-            if let Some(kind) = layer.kind(name) {
-                return Some(Local {
-                    kind,
-                    in_arrow,
-                    ended: layer.has_ended(name),
-                });
-            }
-            in_arrow = in_arrow || layer.is_of_arrow();
-            layers = outer;
-        }
-        None
+        meaning_in(self.layers.as_slice(), false, name)
     }
 
     /// Whether a declaration of the name in the innermost scope has ended.
@@ -125,5 +112,20 @@ impl<'a> Scopes<'a> {
             Some(layer) => layer.has_ended(name),
             None => false,
         }
+    }
+}
+
+/// What the name means in these scopes, the innermost last, inside an arrow or not.
+fn meaning_in(layers: &[Layer], in_arrow: bool, name: &str) -> Option<Local>
+    ensures { option_map local_of result ≡ meaning_from in_arrow name.now (reverse layers.now) }
+{
+    let (layer, outer) = layers.split_last()?;
+    match layer.kind(name) {
+        Some(kind) => Some(Local {
+            kind,
+            in_arrow,
+            ended: layer.has_ended(name),
+        }),
+        None => meaning_in(outer, in_arrow || layer.is_of_arrow(), name),
     }
 }

@@ -5,3 +5,4 @@ pub mod Walking
 pub mod Breaches
 pub mod Kinds_of_root
 pub mod Root_table
+pub mod Tables

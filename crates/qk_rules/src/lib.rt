@@ -4,9 +4,11 @@
 mod fault;
 mod hooks;
 mod items;
+mod kinds;
 mod listed;
 mod roots;
 mod standing;
 mod walk;
 
 pub use fault::RuleFault;
+pub use kinds::Kinds;
