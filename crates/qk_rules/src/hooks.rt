@@ -1,6 +1,6 @@
 //! Where hooks may stand, and what stands where.
 
-ghost use Rattle.std.specs.Prelude.{◌≡◌};
+ghost use Rattle.std.specs.Prelude.{◌≡◌, ◌&&◌};
 ghost use Rattle.std.specs.Option.{option_copied};
 ghost use Rattle.qk_ast.specs.Spots as spots;
 ghost use Rattle.qk_ast.specs.Spots.{statement_hooks, is_named};
@@ -80,11 +80,16 @@ fn is_hook_call(x: &Expr) -> bool
     ensures { result ≡ spots.is_hook_call x.now }
 {
     match x {
-        Expr::Post(head, links) => {
-            names_hook(name_in(head.get())) && is_whole_call(call_by(links.as_slice()))
-        }
+        Expr::Post(head, links) => is_hook(name_in(head.get()), call_by(links.as_slice())),
         _ => false,
     }
+}
+
+/// Whether such a hook is called, and the call is the whole expression.
+fn is_hook(name: Option<&Text>, call: Called) -> bool
+    ensures { result ≡ (is_named statement_hooks (option_copied name.entry) && spots.is_whole_call (called_of call.entry)) }
+{
+    names_hook(name) && is_whole_call(call)
 }
 
 fn names_hook(name: Option<&Text>) -> bool

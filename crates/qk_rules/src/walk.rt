@@ -1,9 +1,8 @@
 //! The walk over a module that finds the first breach of the rules of places.
 
-ghost use Rattle.std.specs.Prelude.{◌≡◌, ◌++◌, [], flat_map, OnOk};
+ghost use Rattle.std.specs.Prelude.{◌≡◌, [], flat_map, None, OnOk};
 ghost use Rattle.std.specs.Option.{option_copied};
 ghost use Rattle.qk_ast.specs.Spots.{Anywhere};
-ghost use Rattle.qk_ast.specs.Scopes.{for_scope};
 ghost use Rattle.qk_rules.specs.Standings.{standing_of, called_of, called_by};
 ghost use Rattle.qk_rules.specs.Checking.{Answers};
 ghost use Rattle.qk_rules.specs.Parts.{inside, of_name, of_expression, of_field, of_operand, of_arguments, of_link, of_links, of_tag, of_attributes, of_markup, of_body, of_arrow, of_statement, of_statements, of_block, of_returned, of_repeated, of_item, of_head};
