@@ -6,3 +6,4 @@ pub mod Breaches
 pub mod Kinds_of_root
 pub mod Root_table
 pub mod Tables
+pub mod Given_calls

@@ -1,6 +1,7 @@
 //! The rules of places: which names, calls, tags and attributes may stand where, for modules as they are written.
 #![tactic(auto)]
 
+mod calls;
 mod fault;
 mod hooks;
 mod items;
@@ -8,6 +9,7 @@ mod kinds;
 mod listed;
 mod roots;
 mod standing;
+mod uses;
 mod walk;
 
 pub use fault::RuleFault;

@@ -1,4 +1,4 @@
-use Rattle.std.proofs.Common.{sym, ap, ◌≡◌, ◌∙◌, ◌++◌, ◌∷◌, [], true, false, length, take}
+use Rattle.std.proofs.Common.{arith, sym, ap, ◌≡◌, ◌∙◌, ◌++◌, ◌∷◌, [], true, false, length, take}
 use Rattle.std.specs.Option.{is_some}
 use Rattle.qk_rules.specs.Root_table.{kind_at, earlier_of, item_kinds}
 use Rattle.qk_rules.specs.Tables.{named_of, table_at}
@@ -25,4 +25,4 @@ pub invariant_of-self-in-Err : goal.invariant_of-self-in-Err
 invariant_of-self-in-Err c =
     let pairs = c.self.inside.modules.items in
     holds_still c.self.inside.tables c.insert.new.self (named_of pairs) (named_of c.truncate.new.self.items) c.self.invariant c.in-Err.ensures.err
-    (ap named_of (cut_back pairs c.push-2.new.self.items c.truncate.new.self.items (c.args.name, c.args.m) c.len-before.result c.len-before.ensures c.in_ok-push-2.ensures.items c.truncate.ensures.items))
+    (ap named_of (cut_back pairs c.push-2.new.self.items c.truncate.new.self.items (c.args.name, c.args.m) c.len-before.result (omega (arith, c.len-before.ensures, c.self.inside.modules.ok.0)) c.in_ok-push-2.ensures.items c.truncate.ensures.items))
