@@ -26,8 +26,9 @@ use Rattle.qk_ast.specs.Scopes.{Scope, declarations, declarations_of, block_scop
 use Rattle.qk_ast.specs.Mentions.{name_in}
 use Rattle.qk_ast.specs.Spots.{Standing, Anywhere, Root_value, Hook_statement, Called, Spot, Item, Named, Tagged, Attributed, argument_of, called, has_children, where_hooks, const_standing, lets_hooks_follow, spots, all_spots, field_spots, operand_spots, link_spots, jsx_spots, attribute_spots, statement_spots, block_spots, body_spots, item_spots}
 use Rattle.qk_ast.specs.Placing.{Root_kind, Placing_breach, placing_breaches}
+use Rattle.qk_locals.specs.Layers.{block_of}
 use Rattle.qk_rules.specs.Standings.{called_by}
-use Rattle.qk_rules.specs.Parts.{Place, inside, broken, of_name, of_expression, of_field, of_operand, of_arguments, of_link, of_links, of_head, of_head_named, is_any, of_tag, of_attribute, of_attributes, of_markup, of_body, of_arrow, of_statement, of_statements, block_of, of_block, of_returned, of_repeated, of_item}
+use Rattle.qk_rules.specs.Parts.{Place, inside, broken, of_name, of_expression, of_field, of_operand, of_arguments, of_link, of_links, of_head, of_head_named, is_any, of_tag, of_attribute, of_attributes, of_markup, of_body, of_arrow, of_statement, of_statements, of_block, of_returned, of_repeated, of_item}
 use Rattle.qk_rules.proofs.Rows.{called_row}
 
 -- ---- spots one after another

@@ -11,7 +11,8 @@ use Rattle.qk_ast.specs.declared.Operand.{Operand}
 use Rattle.qk_ast.specs.declared.Pattern.{Pattern}
 use Rattle.qk_ast.specs.declared.Body.{Body}
 use Rattle.qk_ast.specs.Texts.{Text}
-use Rattle.qk_ast.specs.Scopes.{Scope, declarations_of, arrow_scope, for_scope}
+use Rattle.qk_ast.specs.Scopes.{Scope, arrow_scope}
+use Rattle.qk_locals.specs.Layers.{block_of}
 use Rattle.qk_ast.specs.Mentions.{name_in}
 use Rattle.qk_ast.specs.Spots.{Standing, Anywhere, Root_value, Argument, Called, Spot, Item, Named, Tagged, Attributed, argument_of, standing_mark, is_component_arrow, lets_hooks_follow, spots, all_spots, jsx_spots, statement_spots, body_spots}
 use Rattle.qk_ast.specs.Placing.{Root_kind, Placing_breach, placing_breaches}
@@ -98,10 +99,6 @@ of_statement p hooks statement = broken p (statement_spots statement hooks p.sco
 abbrev pub of_statements : Place → (hooks : Bool) → List Stmt → List Placing_breach
 of_statements p hooks [] = []
 of_statements p hooks (statement ∷ rest) = of_statement p hooks statement ++ of_statements p (hooks && lets_hooks_follow statement) rest
-
--- the scope of a block, by the list of its statements
-abbrev pub block_of : List Stmt → Scope
-block_of statements = record { of_arrow = false; declared = flat_map declarations_of statements; ended = [] }
 
 unfoldable pub of_block : Place → List Stmt → List Placing_breach
 of_block p statements = of_statements (inside (block_of statements) p) false statements

@@ -1,6 +1,6 @@
 //! Where hooks may stand, and what stands where.
 
-ghost use Rattle.std.specs.Prelude.{◌≡◌};
+ghost use Rattle.std.specs.Prelude.{◌≡◌, ◌&&◌};
 ghost use Rattle.std.specs.Option.{option_copied};
 ghost use Rattle.qk_ast.specs.Spots as spots;
 ghost use Rattle.qk_ast.specs.Spots.{statement_hooks, is_named};
@@ -15,7 +15,7 @@ use qk_shared::Text;
 
 /// The mark of an arrow that stands so.
 pub(crate) fn mark_there(standing: Standing) -> Mark
-    ensures { mark_of result ≡ spots.standing_mark (standing_of standing) }
+    ensures { mark_of result ≡ spots.standing_mark (standing_of standing.entry) }
 {
     match standing {
         Standing::Argument { callee, first: _ } => Mark::of_name(callee.as_str()),
@@ -25,7 +25,7 @@ pub(crate) fn mark_there(standing: Standing) -> Mark
 
 /// Whether an arrow that stands so is a component's.
 pub(crate) fn is_component_arrow(standing: Standing) -> bool
-    ensures { result ≡ spots.is_component_arrow (standing_of standing) }
+    ensures { result ≡ spots.is_component_arrow (standing_of standing.entry) }
 {
     match standing {
         Standing::Argument { callee, first: _ } => callee.as_str() == "component$",
@@ -35,7 +35,7 @@ pub(crate) fn is_component_arrow(standing: Standing) -> bool
 
 /// How an argument of a call of that stands, where that is a name.
 pub(crate) fn argument_of(callee: Option<&Text>, first: bool) -> Standing<'_>
-    ensures { standing_of result ≡ spots.argument_of (option_copied callee) first }
+    ensures { standing_of result ≡ spots.argument_of (option_copied callee.entry) first }
 {
     match callee {
         Some(callee) => Standing::Argument { callee, first },
@@ -80,15 +80,20 @@ fn is_hook_call(x: &Expr) -> bool
     ensures { result ≡ spots.is_hook_call x.now }
 {
     match x {
-        Expr::Post(head, links) => {
-            names_hook(name_in(head.get())) && is_whole_call(call_by(links.as_slice()))
-        }
+        Expr::Post(head, links) => is_hook(name_in(head.get()), call_by(links.as_slice())),
         _ => false,
     }
 }
 
+/// Whether such a hook is called, and the call is the whole expression.
+fn is_hook(name: Option<&Text>, call: Called) -> bool
+    ensures { result ≡ (is_named statement_hooks (option_copied name.entry) && spots.is_whole_call (called_of call.entry)) }
+{
+    names_hook(name) && is_whole_call(call)
+}
+
 fn names_hook(name: Option<&Text>) -> bool
-    ensures { result ≡ is_named statement_hooks (option_copied name) }
+    ensures { result ≡ is_named statement_hooks (option_copied name.entry) }
 {
     match name {
         Some(name) => is_statement_hook(name.as_str()),
@@ -97,7 +102,7 @@ fn names_hook(name: Option<&Text>) -> bool
 }
 
 fn is_whole_call(call: Called) -> bool
-    ensures { result ≡ spots.is_whole_call (called_of call) }
+    ensures { result ≡ spots.is_whole_call (called_of call.entry) }
 {
     match call {
         Called::NotCalled => false,

@@ -1,9 +1,8 @@
 //! The walk over a module that finds the first breach of the rules of places.
 
-ghost use Rattle.std.specs.Prelude.{◌≡◌, ◌++◌, [], flat_map, OnOk};
+ghost use Rattle.std.specs.Prelude.{◌≡◌, [], flat_map, None, OnOk};
 ghost use Rattle.std.specs.Option.{option_copied};
 ghost use Rattle.qk_ast.specs.Spots.{Anywhere};
-ghost use Rattle.qk_ast.specs.Scopes.{for_scope};
 ghost use Rattle.qk_rules.specs.Standings.{standing_of, called_of, called_by};
 ghost use Rattle.qk_rules.specs.Checking.{Answers};
 ghost use Rattle.qk_rules.specs.Parts.{inside, of_name, of_expression, of_field, of_operand, of_arguments, of_link, of_links, of_tag, of_attributes, of_markup, of_body, of_arrow, of_statement, of_statements, of_block, of_returned, of_repeated, of_item, of_head};
@@ -29,7 +28,7 @@ pub(crate) struct Walk<'a> {
 
 impl<'a> Walk<'a> {
     fn name(&self, name: &'a Text, call: Called<'a>, standing: Standing<'a>) -> Result<(), RuleFault>
-        ensures { Answers (of_name (place self.now) name.now (called_of call) (standing_of standing)) result }
+        ensures { Answers (of_name (place self.now) name.now (called_of call.entry) (standing_of standing.entry)) result }
     {
         Err(RuleFault::Memory)
     }
@@ -42,7 +41,7 @@ impl<'a> Walk<'a> {
 
     #[cycle(walk)]
     fn expression(&mut self, x: &'a Expr, standing: Standing<'a>) -> Result<(), RuleFault>
-        ensures answers { Answers (of_expression (place self.old) (standing_of standing) x.now) result }
+        ensures answers { Answers (of_expression (place self.old) (standing_of standing.entry) x.now) result }
         ensures kept { OnOk result (self.new ≡ self.old) }
     {
         match x {
@@ -83,7 +82,7 @@ impl<'a> Walk<'a> {
     /// What stands before links.
     #[cycle(walk)]
     fn head(&mut self, head: &'a Expr, call: Called<'a>, standing: Standing<'a>) -> Result<(), RuleFault>
-        ensures answers { Answers (of_head (place self.old) head.now (called_of call) (standing_of standing)) result }
+        ensures answers { Answers (of_head (place self.old) head.now (called_of call.entry) (standing_of standing.entry)) result }
         ensures kept { OnOk result (self.new ≡ self.old) }
     {
         match name_in(head) {
@@ -94,7 +93,7 @@ impl<'a> Walk<'a> {
 
     #[cycle(walk)]
     fn expressions(&mut self, xs: &'a [Expr], standing: Standing<'a>) -> Result<(), RuleFault>
-        ensures answers { Answers (flat_map (of_expression (place self.old) (standing_of standing)) xs.now) result }
+        ensures answers { Answers (flat_map (of_expression (place self.old) (standing_of standing.entry)) xs.now) result }
         ensures kept { OnOk result (self.new ≡ self.old) }
     {
         for x in xs {
@@ -106,7 +105,7 @@ impl<'a> Walk<'a> {
     /// The arguments of a call of that name, if it has one.
     #[cycle(walk)]
     fn arguments(&mut self, callee: Option<&'a Text>, xs: &'a [Expr]) -> Result<(), RuleFault>
-        ensures answers { Answers (of_arguments (place self.old) (option_copied callee) xs.now) result }
+        ensures answers { Answers (of_arguments (place self.old) (option_copied callee.entry) xs.now) result }
         ensures kept { OnOk result (self.new ≡ self.old) }
     {
         let Some((first, later)) = xs.split_first() else {
@@ -141,7 +140,7 @@ impl<'a> Walk<'a> {
     /// The links behind a head that is that name, if it is one.
     #[cycle(walk)]
     fn links(&mut self, callee: Option<&'a Text>, links: &'a [Link]) -> Result<(), RuleFault>
-        ensures answers { Answers (of_links (place self.old) (option_copied callee) links.now) result }
+        ensures answers { Answers (of_links (place self.old) (option_copied callee.entry) links.now) result }
         ensures kept { OnOk result (self.new ≡ self.old) }
     {
         let Some((first, later)) = links.split_first() else {
@@ -165,7 +164,7 @@ impl<'a> Walk<'a> {
 
     #[cycle(walk)]
     fn link(&mut self, callee: Option<&'a Text>, link: &'a Link) -> Result<(), RuleFault>
-        ensures answers { Answers (of_link (place self.old) (option_copied callee) link.now) result }
+        ensures answers { Answers (of_link (place self.old) (option_copied callee.entry) link.now) result }
         ensures kept { OnOk result (self.new ≡ self.old) }
     {
         match link {
@@ -190,13 +189,16 @@ impl<'a> Walk<'a> {
         ensures answers { Answers (of_attributes (place self.old) tag.now [] attributes.now) result }
         ensures kept { OnOk result (self.new ≡ self.old) }
     {
+        for attribute in attributes {
+            self.expression(&attribute.value, Standing::Anywhere)?;
+        }
         Err(RuleFault::Memory)
     }
 
     /// An arrow, with its parameters and the names of its block around its body.
     #[cycle(walk)]
     fn arrow(&mut self, arrow: &'a Arrow, standing: Standing<'a>) -> Result<(), RuleFault>
-        ensures answers { Answers (of_arrow (place self.old) (standing_of standing) arrow.now.params arrow.now.body) result }
+        ensures answers { Answers (of_arrow (place self.old) (standing_of standing.entry) arrow.now.params arrow.now.body) result }
         ensures kept { OnOk result (self.new ≡ self.old) }
     {
         self.scopes.enter_arrow(mark_there(standing), arrow.params.as_slice(), &arrow.body)?;
