@@ -45,7 +45,7 @@ link_sites mark scope (Link.Call' _ all) = dollars (all_arrows all mark scope)
 -- the mark is that of the arguments of the first link, where it is a call
 abbrev pub links_sites : Mark → (scope : List Text) → List Link → ℕ
 links_sites mark scope [] = 0
-links_sites mark scope (link ∷ rest) = link_sites mark scope link + total (link_sites Unmarked scope) rest
+links_sites mark scope (link ∷ rest) = link_sites mark scope link + links_sites Unmarked scope rest
 
 unfoldable pub jsx_sites : (scope : List Text) → Jsx → ℕ
 jsx_sites scope jsx = dollars (jsx_arrows jsx scope)

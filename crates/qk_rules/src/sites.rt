@@ -1,7 +1,7 @@
 //! Whether a module has more dollar sites than it may: the sites are counted down, from one more than it may have.
 
 ghost use Rattle.std.specs.Prelude.{◌≡◌, ℕ, ◌-◌, List, true, not, nat_le, length};
-ghost use Rattle.qk_ast.specs.Arrows.{Unmarked, item_arrows, of_kind};
+ghost use Rattle.qk_ast.specs.Arrows.{item_arrows, of_kind};
 ghost use Rattle.qk_ast.specs.Placing.{most_sites};
 ghost use Rattle.qk_locals.specs.Meanings.{mark_of};
 ghost use Rattle.qk_rules.specs.Site_counts.{total, one_if_dollar, sites_of, field_sites, attribute_sites, operand_sites, link_sites, links_sites, jsx_sites, statement_sites, returned_sites, body_sites, arrow_sites, item_sites};
@@ -106,27 +106,16 @@ fn in_operands(left: usize, operands: &[Operand]) -> usize
     more
 }
 
-/// Of links, the first of which is a call of something that gives its arguments this mark.
+/// Of links, the first of which is behind something that gives its arguments this mark.
 #[cycle(sites)]
 fn in_links(left: usize, links: &[Link], mark: Mark) -> usize
     ensures { (scope : List (List ℕ)) → result ≡ left - links_sites (mark_of mark) scope links.now }
 {
-    match links.split_first() {
-        Some((first, later)) => {
-            let more = in_link(left, first, mark);
-            in_later_links(more, later)
-        }
-        None => left,
-    }
-}
-
-#[cycle(sites)]
-fn in_later_links(left: usize, links: &[Link]) -> usize
-    ensures { (scope : List (List ℕ)) → result ≡ left - total (link_sites Unmarked scope) links.now }
-{
     let mut more = left;
+    let mut given = mark;
     for link in links {
-        more = in_link(more, link, Mark::Unmarked);
+        more = in_link(more, link, given);
+        given = Mark::Unmarked;
     }
     more
 }
