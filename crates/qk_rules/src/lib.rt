@@ -17,3 +17,6 @@ mod walk;
 
 pub use fault::RuleFault;
 pub use kinds::Kinds;
+
+#[cfg(test)]
+mod tests;
