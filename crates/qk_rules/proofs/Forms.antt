@@ -151,9 +151,9 @@ unfolding of_expression of_name shape-the_row-Expr-0 hidden-the_row-Expr-0 hidde
 of_post p standing head ls = by (name_in head)
   where
     by : (o : Option Text) → broken p (elim o as (λ _. List Spot) [
-      | Some name ↦ Named name (called (hidden-the_row-Link-5 ls)) standing p.scopes ∷ link_spots (hidden-the_row-Link-5 ls) (Some name) p.scopes
-      | None ↦ spots head Anywhere p.scopes ++ link_spots (hidden-the_row-Link-5 ls) None p.scopes
-    ]) ≡ of_head_named p o head (called_by ls) standing ++ of_links p o ls
+          | Some name ↦ Named name (called (hidden-the_row-Link-5 ls)) standing p.scopes ∷ link_spots (hidden-the_row-Link-5 ls) (Some name) p.scopes
+          | None ↦ spots head Anywhere p.scopes ++ link_spots (hidden-the_row-Link-5 ls) None p.scopes
+        ]) ≡ of_head_named p o head (called_by ls) standing ++ of_links p o ls
     by (Some name) = two p (Named name (called (hidden-the_row-Link-5 ls)) standing p.scopes ∷ []) (link_spots (hidden-the_row-Link-5 ls) (Some name) p.scopes) _ _
         (ap (λ call. broken p (Named name call standing p.scopes ∷ [])) (called_row ls)) (links_row p (Some name) ls)
     by None = two p (spots head Anywhere p.scopes) (link_spots (hidden-the_row-Link-5 ls) None p.scopes) _ _ refl (links_row p None ls)

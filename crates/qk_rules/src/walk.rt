@@ -9,10 +9,8 @@ ghost use Rattle.qk_rules.specs.Parts.{inside, of_name, of_expression, of_field,
 ghost use Rattle.qk_rules.specs.Walking.{place};
 
 use crate::RuleFault;
-use crate::hooks::{
-    argument_of, const_standing, is_component_arrow, lets_hooks_follow, mark_there, where_hooks,
-};
 use crate::roots::Roots;
+use crate::hooks::{argument_of, const_standing, is_component_arrow, lets_hooks_follow, mark_there, where_hooks};
 use crate::standing::{Called, Standing, call_by, name_in};
 use qk_ast::{Arrow, Body, Expr, Field, Jsx, Link, Operand, Stmt, Tag};
 use qk_locals::Scopes;
@@ -29,12 +27,7 @@ pub(crate) struct Walk<'a> {
 }
 
 impl<'a> Walk<'a> {
-    fn name(
-        &self,
-        name: &'a Text,
-        call: Called<'a>,
-        standing: Standing<'a>,
-    ) -> Result<(), RuleFault>
+    fn name(&self, name: &'a Text, call: Called<'a>, standing: Standing<'a>) -> Result<(), RuleFault>
         ensures { Answers (of_name (place self.now) name.now (called_of call.entry) (standing_of standing.entry)) result }
     {
         Err(RuleFault::Memory)
@@ -88,12 +81,7 @@ impl<'a> Walk<'a> {
 
     /// What stands before links.
     #[cycle(walk)]
-    fn head(
-        &mut self,
-        head: &'a Expr,
-        call: Called<'a>,
-        standing: Standing<'a>,
-    ) -> Result<(), RuleFault>
+    fn head(&mut self, head: &'a Expr, call: Called<'a>, standing: Standing<'a>) -> Result<(), RuleFault>
         ensures answers { Answers (of_head (place self.old) head.now (called_of call.entry) (standing_of standing.entry)) result }
         ensures kept { OnOk result (self.new ≡ self.old) }
     {
@@ -213,8 +201,7 @@ impl<'a> Walk<'a> {
         ensures answers { Answers (of_arrow (place self.old) (standing_of standing.entry) arrow.now.params arrow.now.body) result }
         ensures kept { OnOk result (self.new ≡ self.old) }
     {
-        self.scopes
-            .enter_arrow(mark_there(standing), arrow.params.as_slice(), &arrow.body)?;
+        self.scopes.enter_arrow(mark_there(standing), arrow.params.as_slice(), &arrow.body)?;
         self.body(&arrow.body, is_component_arrow(standing))?;
         self.scopes.leave();
         Ok(())
