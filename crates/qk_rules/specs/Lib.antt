@@ -7,3 +7,4 @@ pub mod Kinds_of_root
 pub mod Root_table
 pub mod Tables
 pub mod Given_calls
+pub mod Attributes

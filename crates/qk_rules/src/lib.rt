@@ -2,6 +2,7 @@
 #![tactic(auto)]
 
 mod calls;
+mod earlier;
 mod fault;
 mod hooks;
 mod items;
@@ -9,6 +10,8 @@ mod kinds;
 mod listed;
 mod roots;
 mod standing;
+mod tags;
+mod telling;
 mod uses;
 mod walk;
 

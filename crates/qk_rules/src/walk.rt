@@ -1,17 +1,19 @@
 //! The walk over a module that finds the first breach of the rules of places.
 
-ghost use Rattle.std.specs.Prelude.{◌≡◌, [], flat_map, None, OnOk};
+ghost use Rattle.std.specs.Prelude.{◌≡◌, [], flat_map, OnOk};
 ghost use Rattle.std.specs.Option.{option_copied};
 ghost use Rattle.qk_ast.specs.Spots.{Anywhere};
-ghost use Rattle.qk_rules.specs.Standings.{standing_of, called_of, called_by};
+ghost use Rattle.qk_rules.specs.Standings.{standing_of, called_of};
 ghost use Rattle.qk_rules.specs.Checking.{Answers};
-ghost use Rattle.qk_rules.specs.Parts.{inside, of_name, of_expression, of_field, of_operand, of_arguments, of_link, of_links, of_tag, of_attributes, of_markup, of_body, of_arrow, of_statement, of_statements, of_block, of_returned, of_repeated, of_item, of_head};
+ghost use Rattle.qk_rules.specs.Parts.{of_name, of_expression, of_field, of_operand, of_arguments, of_link, of_links, of_tag, of_attributes, of_markup, of_body, of_arrow, of_statement, of_statements, of_block, of_returned, of_head};
 ghost use Rattle.qk_rules.specs.Walking.{place};
 
 use crate::RuleFault;
-use crate::roots::Roots;
+use crate::earlier::Earlier;
 use crate::hooks::{argument_of, const_standing, is_component_arrow, lets_hooks_follow, mark_there, where_hooks};
+use crate::roots::Roots;
 use crate::standing::{Called, Standing, call_by, name_in};
+use crate::telling::{name_told, tag_told, with_attribute};
 use qk_ast::{Arrow, Body, Expr, Field, Jsx, Link, Operand, Stmt, Tag};
 use qk_locals::Scopes;
 use qk_shared::Text;
@@ -30,13 +32,13 @@ impl<'a> Walk<'a> {
     fn name(&self, name: &'a Text, call: Called<'a>, standing: Standing<'a>) -> Result<(), RuleFault>
         ensures { Answers (of_name (place self.now) name.now (called_of call.entry) (standing_of standing.entry)) result }
     {
-        Err(RuleFault::Memory)
+        name_told(&self.roots, &self.scopes, name, call, standing)
     }
 
     fn tag(&self, tag: &'a Tag, children: bool) -> Result<(), RuleFault>
         ensures { Answers (of_tag (place self.now) tag.now children) result }
     {
-        Err(RuleFault::Memory)
+        tag_told(&self.roots, &self.scopes, tag, children)
     }
 
     #[cycle(walk)]
@@ -112,7 +114,10 @@ impl<'a> Walk<'a> {
             return Ok(());
         };
         self.expression(first, argument_of(callee, true))?;
-        self.expressions(later, argument_of(callee, false))
+        for x in later {
+            self.expression(x, argument_of(callee, false))?;
+        }
+        Ok(())
     }
 
     #[cycle(walk)]
@@ -147,16 +152,7 @@ impl<'a> Walk<'a> {
             return Ok(());
         };
         self.link(callee, first)?;
-        self.later_links(later)
-    }
-
-    /// The links behind the first.
-    #[cycle(walk)]
-    fn later_links(&mut self, links: &'a [Link]) -> Result<(), RuleFault>
-        ensures answers { Answers (flat_map (of_link (place self.old) None) links.now) result }
-        ensures kept { OnOk result (self.new ≡ self.old) }
-    {
-        for link in links {
+        for link in later {
             self.link(None, link)?;
         }
         Ok(())
@@ -189,10 +185,12 @@ impl<'a> Walk<'a> {
         ensures answers { Answers (of_attributes (place self.old) tag.now [] attributes.now) result }
         ensures kept { OnOk result (self.new ≡ self.old) }
     {
+        let mut earlier = Earlier::new(self.alloc);
         for attribute in attributes {
+            earlier = with_attribute(earlier, self.alloc, tag, attribute)?;
             self.expression(&attribute.value, Standing::Anywhere)?;
         }
-        Err(RuleFault::Memory)
+        Ok(())
     }
 
     /// An arrow, with its parameters and the names of its block around its body.
@@ -248,10 +246,14 @@ impl<'a> Walk<'a> {
                 self.block(then.as_slice())?;
                 self.block(otherwise.as_slice())
             }
-            Stmt::While(test, inside) => self.repeated(test, inside.as_slice()),
+            Stmt::While(test, inside) => {
+                self.expression(test, Standing::Anywhere)?;
+                self.block(inside.as_slice())
+            }
             Stmt::ForOf(name, x, inside) => {
                 self.scopes.enter_for(name, false)?;
-                self.repeated(x, inside.as_slice())?;
+                self.expression(x, Standing::Anywhere)?;
+                self.block(inside.as_slice())?;
                 self.scopes.leave();
                 Ok(())
             }
@@ -271,16 +273,6 @@ impl<'a> Walk<'a> {
             Some(x) => self.expression(x, Standing::Anywhere),
             None => Ok(()),
         }
-    }
-
-    /// An expression and the block that is repeated by it.
-    #[cycle(walk)]
-    fn repeated(&mut self, x: &'a Expr, inside: &'a [Stmt]) -> Result<(), RuleFault>
-        ensures answers { Answers (of_repeated (place self.old) x.now inside.now) result }
-        ensures kept { OnOk result (self.new ≡ self.old) }
-    {
-        self.expression(x, Standing::Anywhere)?;
-        self.block(inside)
     }
 
     /// A block, with its names around it.
