@@ -8,3 +8,4 @@ pub mod Root_table
 pub mod Tables
 pub mod Given_calls
 pub mod Attributes
+pub mod Site_counts

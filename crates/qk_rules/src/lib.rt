@@ -9,6 +9,7 @@ mod items;
 mod kinds;
 mod listed;
 mod roots;
+mod sites;
 mod standing;
 mod tags;
 mod telling;
