@@ -30,4 +30,3 @@ text_is (c ∷ cs) (d ∷ ds) h = ap (λ x. x ∷ cs) (eqb→eq c d (subst T (sy
 pub text_own : (a : List ℕ) → bytes_eq a a ≡ true
 text_own [] = refl
 text_own (c ∷ cs) = both (eqb c c) (bytes_eq cs cs) (eq-eqb c c refl) (text_own cs)
-

@@ -150,8 +150,8 @@ of_choice mark scope x y z =
     dollars_both (arrows x Unmarked scope ++ []) ((arrows y Unmarked scope ++ []) ++ (arrows z Unmarked scope ++ []))
     ∙ ap (λ n. n + dollars ((arrows y Unmarked scope ++ []) ++ (arrows z Unmarked scope ++ []))) (one_row Unmarked scope x)
     ∙ ap (λ n. sites_of Unmarked scope x + n)
-      (dollars_both (arrows y Unmarked scope ++ []) (arrows z Unmarked scope ++ [])
-      ∙ ap (λ n. n + dollars (arrows z Unmarked scope ++ [])) (one_row Unmarked scope y) ∙ ap (λ n. sites_of Unmarked scope y + n) (one_row Unmarked scope z))
+    (dollars_both (arrows y Unmarked scope ++ []) (arrows z Unmarked scope ++ [])
+    ∙ ap (λ n. n + dollars (arrows z Unmarked scope ++ [])) (one_row Unmarked scope y) ∙ ap (λ n. sites_of Unmarked scope y + n) (one_row Unmarked scope z))
 
 pub of_post : (mark : Mark) (scope : List Text) (x : Expr) (ls : List Link) → sites_of mark scope (e.Post x ls) ≡ sites_of Unmarked scope x + links_sites (call_mark x) scope ls
 unfolding sites_of shape-the_row-Expr-0 hidden-the_row-Expr-0 hidden
@@ -243,9 +243,9 @@ unfolding statement_sites sites_of
 of_if scope x ss ts =
     dollars_both (arrows x Unmarked scope) (block_arrows (hidden-the_row-Stmt-1 ss) (in_block ss scope) ++ block_arrows (hidden-the_row-Stmt-1 ts) (in_block ts scope))
     ∙ ap (λ n. dollars (arrows x Unmarked scope) + n)
-      (dollars_both (block_arrows (hidden-the_row-Stmt-1 ss) (in_block ss scope)) (block_arrows (hidden-the_row-Stmt-1 ts) (in_block ts scope))
-      ∙ ap (λ n. n + dollars (block_arrows (hidden-the_row-Stmt-1 ts) (in_block ts scope))) (statements_row (in_block ss scope) ss)
-      ∙ ap (λ n. total (statement_sites (in_block ss scope)) ss + n) (statements_row (in_block ts scope) ts))
+    (dollars_both (block_arrows (hidden-the_row-Stmt-1 ss) (in_block ss scope)) (block_arrows (hidden-the_row-Stmt-1 ts) (in_block ts scope))
+    ∙ ap (λ n. n + dollars (block_arrows (hidden-the_row-Stmt-1 ts) (in_block ts scope))) (statements_row (in_block ss scope) ss)
+    ∙ ap (λ n. total (statement_sites (in_block ss scope)) ss + n) (statements_row (in_block ts scope) ts))
 
 pub of_while : (scope : List Text) (x : Expr) (ss : List Stmt) → statement_sites scope (s.While x ss) ≡ sites_of Unmarked scope x + total (statement_sites (in_block ss scope)) ss
 unfolding statement_sites sites_of

@@ -118,9 +118,9 @@ module _ (tag : Tag) (name : Text) (value : Expr) (earlier : List Text) where
   parted : is_attribute tag name value earlier ≡ tried (is_listed name earlier) (is_alone tag name value) (is_listener name) (is_event (in_small_letters name) earlier)
   parted =
       ap (λ b. not (is_listed name earlier) && fits_tag tag name && not (is_listener name && b)
-        && not (is_among name (codes "children" ∷ codes "ref" ∷ codes "dangerouslySetInnerHTML" ∷ [])) && (not (wants_text tag name) || is_text_literal value)) (event_is name earlier)
+      && not (is_among name (codes "children" ∷ codes "ref" ∷ codes "dangerouslySetInnerHTML" ∷ [])) && (not (wants_text tag name) || is_text_literal value)) (event_is name earlier)
       ∙ shuffled (is_listed name earlier) (fits_tag tag name) (is_listener name) (is_event (in_small_letters name) earlier)
-        (is_among name (codes "children" ∷ codes "ref" ∷ codes "dangerouslySetInnerHTML" ∷ [])) (not (wants_text tag name) || is_text_literal value)
+      (is_among name (codes "children" ∷ codes "ref" ∷ codes "dangerouslySetInnerHTML" ∷ [])) (not (wants_text tag name) || is_text_literal value)
 
   pub refused_listed : is_listed name earlier ≡ true → is_attribute tag name value earlier ≡ false
   refused_listed h = parted ∙ ap (λ b. tried b (is_alone tag name value) (is_listener name) (is_event (in_small_letters name) earlier)) h

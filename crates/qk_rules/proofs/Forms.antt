@@ -151,9 +151,9 @@ unfolding of_expression of_name shape-the_row-Expr-0 hidden-the_row-Expr-0 hidde
 of_post p standing head ls = by (name_in head)
   where
     by : (o : Option Text) → broken p (elim o as (λ _. List Spot) [
-          | Some name ↦ Named name (called (hidden-the_row-Link-5 ls)) standing p.scopes ∷ link_spots (hidden-the_row-Link-5 ls) (Some name) p.scopes
-          | None ↦ spots head Anywhere p.scopes ++ link_spots (hidden-the_row-Link-5 ls) None p.scopes
-        ]) ≡ of_head_named p o head (called_by ls) standing ++ of_links p o ls
+      | Some name ↦ Named name (called (hidden-the_row-Link-5 ls)) standing p.scopes ∷ link_spots (hidden-the_row-Link-5 ls) (Some name) p.scopes
+      | None ↦ spots head Anywhere p.scopes ++ link_spots (hidden-the_row-Link-5 ls) None p.scopes
+    ]) ≡ of_head_named p o head (called_by ls) standing ++ of_links p o ls
     by (Some name) = two p (Named name (called (hidden-the_row-Link-5 ls)) standing p.scopes ∷ []) (link_spots (hidden-the_row-Link-5 ls) (Some name) p.scopes) _ _
         (ap (λ call. broken p (Named name call standing p.scopes ∷ [])) (called_row ls)) (links_row p (Some name) ls)
     by None = two p (spots head Anywhere p.scopes) (link_spots (hidden-the_row-Link-5 ls) None p.scopes) _ _ refl (links_row p None ls)
@@ -287,10 +287,10 @@ of_inner_block p hooks ss = block_row p ss
 
 -- ---- items
 
-pub items_row : (file : Text) (roots : Text → Root_kind) (items : List Root_item) → flat_map (placing_breaches file roots) (item_spots items) ≡ flat_map (of_item file roots) items
+pub items_row : (file : Text) (roots : Text → Root_kind) (items : List Root_item) → flat_map (placing_breaches file roots) (item_spots items) ≡ flat_map (of_item (record { file = file; roots = roots; scopes = [] })) items
 unfolding of_item of_expression broken
 items_row file roots [] = refl
 items_row file roots (i ∷ rest) = let spotted = spots i.init Root_value [] in
     ap (λ later. placing_breaches file roots (Item i.name i.init) ++ later)
     (flat_both (placing_breaches file roots) spotted (item_spots rest) ∙ ap (λ later. flat_map (placing_breaches file roots) spotted ++ later) (items_row file roots rest))
-    ∙ sym (append_assoc (placing_breaches file roots (Item i.name i.init)) (flat_map (placing_breaches file roots) spotted) (flat_map (of_item file roots) rest))
+    ∙ sym (append_assoc (placing_breaches file roots (Item i.name i.init)) (flat_map (placing_breaches file roots) spotted) (flat_map (of_item (record { file = file; roots = roots; scopes = [] })) rest))

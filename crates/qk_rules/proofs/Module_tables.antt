@@ -54,7 +54,7 @@ root_says modules [] items q = items_say items q
 root_says modules (i ∷ imports) items q =
     ap kind_or_else (earlier_both (name_kinds (imported_kind modules i.from) i.names q) (import_kinds modules imports q) (item_kinds items q))
     ∙ import_said (is_listed q i.names) (imported_kind modules i.from q) (earlier_of (import_kinds modules imports q) (item_kinds items q)) (root_kind_from modules imports items q)
-      (name_kinds (imported_kind modules i.from) i.names q) (names_say (imported_kind modules i.from) i.names q) (root_says modules imports items q)
+    (name_kinds (imported_kind modules i.from) i.names q) (names_say (imported_kind modules i.from) i.names q) (root_says modules imports items q)
 
 -- the kinds of a root, where the table was made from nothing
 pub root_from_nothing : (modules : List Named_module) (imports : List Import) (items : List Item) (q : Text) (none some all : Option Root_kind)
@@ -125,7 +125,7 @@ module_again tables modules all name m holds there pushed = λ n q.
     let among : is_some (first_module modules name) ≡ true = both_there (table_at tables name) (first_module modules name) true q there (holds name q) in
     holds n q
     ∙ ap (option_map (λ x. item_kind q x.items)) (stays (first_module modules n) (same_text name n) m (λ same. subst (λ (t : Text). is_some (first_module modules t) ≡ true) (text_is name n same) among)
-      ∙ sym (found_more modules name m n) ∙ ap (λ l. first_module l n) (sym pushed))
+    ∙ sym (found_more modules name m n) ∙ ap (λ l. first_module l n) (sym pushed))
 
 entered : (b : Bool) (o : Option Roots) (f : Option Module) (t : Roots) (m : Module) (q : Text) → (b ≡ true → f ≡ None) → kind_by t q ≡ item_kind q m.items
     → option_map (λ table. kind_by table q) o ≡ option_map (λ x. item_kind q x.items) f
@@ -144,7 +144,7 @@ module_entered old new modules all key name m empty table named holds absent beg
     ap (option_map (λ t. kind_by t q)) (hash_map_updates_str key old new (Some table) updated n)
     ∙ entered (bytes_eq key n) (table_at old n) (first_module modules n) table m q (λ at. none_there (first_module modules n) (subst (λ (t : Text). is_some (first_module modules t) ≡ false) (text_is key n at) missing)) same (holds n q)
     ∙ ap (option_map (λ x. item_kind q x.items))
-      (ap (λ (t : Text). or_last (first_module modules n) (same_text t n) m) named ∙ sym (found_more modules name m n) ∙ ap (λ l. first_module l n) (sym pushed))
+    (ap (λ (t : Text). or_last (first_module modules n) (same_text t n) m) named ∙ sym (found_more modules name m n) ∙ ap (λ l. first_module l n) (sym pushed))
 
 -- nothing has changed
 pub holds_still : {S : Type 0} (old new : Tables_of S) (modules all : List Named_module) → HoldsKinds old modules → new.entries ≡ old.entries → all ≡ modules → HoldsKinds new all

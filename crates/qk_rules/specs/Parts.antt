@@ -14,10 +14,10 @@ use Rattle.qk_ast.specs.Texts.{Text}
 use Rattle.qk_ast.specs.Scopes.{Scope, arrow_scope}
 use Rattle.qk_locals.specs.Layers.{block_of}
 use Rattle.qk_ast.specs.Mentions.{name_in}
-use Rattle.qk_ast.specs.Spots.{Standing, Anywhere, Root_value, Argument, Called, Spot, Item, Named, Tagged, Attributed, argument_of, standing_mark, is_component_arrow, lets_hooks_follow, spots, all_spots, jsx_spots, statement_spots, body_spots}
+use Rattle.qk_ast.specs.Spots.{Standing, Anywhere, Root_value, Argument, Called, Spot, Named, Tagged, Attributed, argument_of, standing_mark, is_component_arrow, lets_hooks_follow, spots, all_spots, jsx_spots, statement_spots, body_spots}
 use Rattle.qk_ast.specs.declared.RuleKind.TheVariants.{TagRefused}
 use Rattle.qk_ast.specs.Tags.{is_element, is_attribute}
-use Rattle.qk_ast.specs.Placing.{Root_kind, Placing_breach, refuse_if, placing_breaches}
+use Rattle.qk_ast.specs.Placing.{Root_kind, Placing_breach, refuse_if, item_breaches, placing_breaches}
 use Rattle.qk_rules.specs.Breaches.{component_breaches}
 
 -- In the module of this name, with these kinds of the names of its root and these scopes around.
@@ -123,5 +123,5 @@ of_returned p (Some x) = of_expression p Anywhere x
 
 -- ---- items
 
-unfoldable pub of_item : Text → (Text → Root_kind) → Root_item → List Placing_breach
-of_item file roots i = placing_breaches file roots (Item i.name i.init) ++ of_expression (record { file = file; roots = roots; scopes = [] }) Root_value i.init
+unfoldable pub of_item : Place → Root_item → List Placing_breach
+of_item p i = item_breaches p.file i.name i.init ++ of_expression p Root_value i.init

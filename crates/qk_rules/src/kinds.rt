@@ -32,7 +32,6 @@ impl<'a> Model for Kinds<'a> {
     ghost use Rattle.std.specs.Prelude.{List};
     ghost use Rattle.qk_ast.specs.Sources.{Named_module};
     ghost use Rattle.qk_rules.specs.Tables.{named_of, HoldsKinds};
-
     ghost use Rattle.qk_ast.specs.contracts.Expr as e;
     ghost use Rattle.std.specs.Coded.{codes};
 
@@ -104,7 +103,11 @@ impl<'a> Kinds<'a> {
     }
 
     /// Gives the imported names their kinds.
-    fn add_imports<'m>(&self, roots: &mut Roots<'m>, imports: &'m [Import]) -> Result<(), AllocError>
+    fn add_imports<'m>(
+        &self,
+        roots: &mut Roots<'m>,
+        imports: &'m [Import],
+    ) -> Result<(), AllocError>
         ensures { OnOk result ((q : List ℕ) → kind_at roots.new q ≡ earlier_of (kind_at roots.old q) (import_kinds self.now imports.now q)) }
     {
         for import in imports {

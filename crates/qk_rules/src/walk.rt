@@ -5,16 +5,19 @@ ghost use Rattle.std.specs.Option.{option_copied};
 ghost use Rattle.qk_ast.specs.Spots.{Anywhere};
 ghost use Rattle.qk_rules.specs.Standings.{standing_of, called_of};
 ghost use Rattle.qk_rules.specs.Checking.{Answers};
-ghost use Rattle.qk_rules.specs.Parts.{of_name, of_expression, of_field, of_operand, of_arguments, of_link, of_links, of_tag, of_attributes, of_markup, of_body, of_arrow, of_statement, of_statements, of_block, of_returned, of_head};
+ghost use Rattle.qk_rules.specs.Parts.{of_name, of_expression, of_field, of_operand, of_arguments, of_link, of_links, of_tag, of_attributes, of_markup, of_body, of_arrow, of_statement, of_statements, of_block, of_returned, of_head, of_item};
+ghost use Rattle.qk_rules.specs.Root_table.{kind_by};
 ghost use Rattle.qk_rules.specs.Walking.{place};
 
 use crate::RuleFault;
 use crate::earlier::Earlier;
-use crate::hooks::{argument_of, const_standing, is_component_arrow, lets_hooks_follow, mark_there, where_hooks};
+use crate::hooks::{
+    argument_of, const_standing, hooks_behind, is_component_arrow, mark_there, where_hooks,
+};
 use crate::roots::Roots;
 use crate::standing::{Called, Standing, call_by, name_in};
-use crate::telling::{name_told, tag_told, with_attribute};
-use qk_ast::{Arrow, Body, Expr, Field, Jsx, Link, Operand, Stmt, Tag};
+use crate::telling::{has_children, item_told, name_told, tag_told, with_attribute};
+use qk_ast::{Arrow, Body, Expr, Field, Item, Jsx, Link, Operand, Stmt, Tag};
 use qk_locals::Scopes;
 use qk_shared::Text;
 use std::alloc::Global;
@@ -29,7 +32,44 @@ pub(crate) struct Walk<'a> {
 }
 
 impl<'a> Walk<'a> {
-    fn name(&self, name: &'a Text, call: Called<'a>, standing: Standing<'a>) -> Result<(), RuleFault>
+    /// At the begin of a module of that name.
+    #[tactic(auto, unfolding(crate::specs::Walking::place))]
+    pub(crate) fn new(alloc: Global, file: &'a str, roots: Roots<'a>) -> Walk<'a>
+        ensures { place result ≡ record { file = file.now; roots = kind_by roots.entry; scopes = [] } }
+    {
+        Walk {
+            alloc,
+            file,
+            roots,
+            scopes: Scopes::new(alloc),
+        }
+    }
+
+    /// The items of the root, outside of all scopes.
+    pub(crate) fn items(&mut self, items: &'a [Item]) -> Result<(), RuleFault>
+        ensures answers { Answers (flat_map (of_item (place self.old)) items.now) result }
+        ensures kept { OnOk result (self.new ≡ self.old) }
+    {
+        for item in items {
+            self.item(item)?;
+        }
+        Ok(())
+    }
+
+    fn item(&mut self, item: &'a Item) -> Result<(), RuleFault>
+        ensures answers { Answers (of_item (place self.old) item.now) result }
+        ensures kept { OnOk result (self.new ≡ self.old) }
+    {
+        item_told(self.file, item)?;
+        self.expression(&item.init, Standing::RootValue)
+    }
+
+    fn name(
+        &self,
+        name: &'a Text,
+        call: Called<'a>,
+        standing: Standing<'a>,
+    ) -> Result<(), RuleFault>
         ensures { Answers (of_name (place self.now) name.now (called_of call.entry) (standing_of standing.entry)) result }
     {
         name_told(&self.roots, &self.scopes, name, call, standing)
@@ -83,7 +123,12 @@ impl<'a> Walk<'a> {
 
     /// What stands before links.
     #[cycle(walk)]
-    fn head(&mut self, head: &'a Expr, call: Called<'a>, standing: Standing<'a>) -> Result<(), RuleFault>
+    fn head(
+        &mut self,
+        head: &'a Expr,
+        call: Called<'a>,
+        standing: Standing<'a>,
+    ) -> Result<(), RuleFault>
         ensures answers { Answers (of_head (place self.old) head.now (called_of call.entry) (standing_of standing.entry)) result }
         ensures kept { OnOk result (self.new ≡ self.old) }
     {
@@ -113,9 +158,10 @@ impl<'a> Walk<'a> {
         let Some((first, later)) = xs.split_first() else {
             return Ok(());
         };
+        let behind = argument_of(callee, false);
         self.expression(first, argument_of(callee, true))?;
         for x in later {
-            self.expression(x, argument_of(callee, false))?;
+            self.expression(x, behind)?;
         }
         Ok(())
     }
@@ -175,9 +221,10 @@ impl<'a> Walk<'a> {
         ensures answers { Answers (of_markup (place self.old) jsx.now) result }
         ensures kept { OnOk result (self.new ≡ self.old) }
     {
-        self.tag(&jsx.tag, !jsx.children.is_empty())?;
+        let children = jsx.children.as_slice();
+        self.tag(&jsx.tag, has_children(children))?;
         self.attributes(&jsx.tag, jsx.attrs.as_slice())?;
-        self.expressions(jsx.children.as_slice(), Standing::Anywhere)
+        self.expressions(children, Standing::Anywhere)
     }
 
     #[cycle(walk)]
@@ -187,7 +234,8 @@ impl<'a> Walk<'a> {
     {
         let mut earlier = Earlier::new(self.alloc);
         for attribute in attributes {
-            earlier = with_attribute(earlier, self.alloc, tag, attribute)?;
+            let longer = with_attribute(earlier, self.alloc, tag, attribute)?;
+            earlier = longer;
             self.expression(&attribute.value, Standing::Anywhere)?;
         }
         Ok(())
@@ -199,7 +247,8 @@ impl<'a> Walk<'a> {
         ensures answers { Answers (of_arrow (place self.old) (standing_of standing.entry) arrow.now.params arrow.now.body) result }
         ensures kept { OnOk result (self.new ≡ self.old) }
     {
-        self.scopes.enter_arrow(mark_there(standing), arrow.params.as_slice(), &arrow.body)?;
+        self.scopes
+            .enter_arrow(mark_there(standing), arrow.params.as_slice(), &arrow.body)?;
         self.body(&arrow.body, is_component_arrow(standing))?;
         self.scopes.leave();
         Ok(())
@@ -225,7 +274,8 @@ impl<'a> Walk<'a> {
         let mut hooks = first;
         for statement in statements {
             self.statement(statement, hooks)?;
-            hooks = hooks && lets_hooks_follow(statement);
+            let next = hooks_behind(hooks, statement);
+            hooks = next;
         }
         Ok(())
     }

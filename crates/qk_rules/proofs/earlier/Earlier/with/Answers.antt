@@ -17,9 +17,10 @@ returns-then-is_listener c =
 
 pub returns : goal.returns
 returns c =
-    let same = c.as_str-key.ensures in
-    (kept_other c.args.tag.now c.args.name.now c.args.value.now c.args.self
-      (ap (λ t. is_listed t c.args.self) (sym same) ∙ sym c.has.ensures ∙ c.if-has.false)
-      (ap (λ t. is_alone c.args.tag.now t c.args.value.now) (sym same) ∙ sym c.is_alone.ensures ∙ c.if-not-is_alone.false)
-      (ap is_listener (sym same) ∙ sym c.is_listener.ensures ∙ c.if-is_listener.false),
-    c.in_ok-with_other.ensures ∙ ap (λ t. c.args.self ++ t ∷ []) same)
+    let same = c.as_str-key.ensures in (
+      kept_other c.args.tag.now c.args.name.now c.args.value.now c.args.self
+          (ap (λ t. is_listed t c.args.self) (sym same) ∙ sym c.has.ensures ∙ c.if-has.false)
+          (ap (λ t. is_alone c.args.tag.now t c.args.value.now) (sym same) ∙ sym c.is_alone.ensures ∙ c.if-not-is_alone.false)
+          (ap is_listener (sym same) ∙ sym c.is_listener.ensures ∙ c.if-is_listener.false),
+      c.in_ok-with_other.ensures ∙ ap (λ t. c.args.self ++ t ∷ []) same,
+    )

@@ -16,7 +16,8 @@ invariant_of-result c =
     (new_name c.self.inside.names c.add.new.self c.args.name.now (ap (is_listed c.args.name.now) c.self.view_is ∙ c.requires.new) c.in_ok-add.ensures.names) c.in_ok-insert.ensures.updates
 
 pub returns : goal.returns
-returns c =
-    (event_known c.self.inside.events c.self.inside.names c.args.self c.as_str.result.now c.args.name.now false c.self.invariant c.self.view_is
+returns c = (
+  event_known c.self.inside.events c.self.inside.names c.args.self c.as_str.result.now c.args.name.now false c.self.invariant c.self.view_is
       (c.as_str.ensures.value ∙ c.in_ok-event.ensures.ok ∙ lowered c.args.name.now) (sym c.contains.ensures ∙ c.if-contains.false),
-    rw (← c.self.view_is) (new_name c.self.inside.names c.add.new.self c.args.name.now (ap (is_listed c.args.name.now) c.self.view_is ∙ c.requires.new) c.in_ok-add.ensures.names))
+  rw (← c.self.view_is) (new_name c.self.inside.names c.add.new.self c.args.name.now (ap (is_listed c.args.name.now) c.self.view_is ∙ c.requires.new) c.in_ok-add.ensures.names),
+)

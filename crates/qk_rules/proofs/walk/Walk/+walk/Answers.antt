@@ -1,15 +1,15 @@
-use Rattle.std.proofs.Common.{rules, ◌+◌, [], ◌∷◌, ◌++◌, drop, flat_map, ap, sym, refl, ◌∙◌, Some, None}
+use Rattle.std.proofs.Common.{rules, ◌+◌, [], ◌∷◌, ◌++◌, ◌&&◌, false, drop, flat_map, ap, sym, refl, ◌∙◌, Some, None}
 use Rattle.std.specs.Option.{option_copied}
 use Rattle.qk_ast.specs.declared.Jsx.{out-Jsx}
 use Rattle.qk_ast.specs.Mentions.{name_in}
-use Rattle.qk_ast.specs.Spots.{Anywhere}
+use Rattle.qk_ast.specs.Spots.{Anywhere, argument_of, lets_hooks_follow}
 use Rattle.qk_locals.specs.Meanings.{mark_of}
 use Rattle.qk_rules.specs.Standings.{standing_of, called_of, called_by}
-use Rattle.qk_rules.specs.Parts.{of_expression, of_field, of_operand, of_arguments, of_link, of_links, of_head, of_markup, of_body, of_arrow, of_statement, of_statements, of_block}
+use Rattle.qk_rules.specs.Parts.{of_expression, of_field, of_operand, of_arguments, of_link, of_links, of_head, of_tag, is_any, of_attributes, attribute_breaches, of_markup, of_body, of_arrow, of_statement, of_statements, of_block}
 use Rattle.qk_rules.specs.Walking.{place}
 use Rattle.qk_rules.proofs.Forms.{of_undefined, of_null, of_bool, of_int, of_text, of_named, of_list, of_record, of_template, of_unary, of_chain, of_choice, of_post, of_assign, of_step, of_known, of_function, of_element, of_property, of_index, of_call, of_jsx, of_value, of_whole_block, of_constant, of_let, of_do, of_delete, of_return, of_if, of_while, of_for, of_inner_block, of_break, of_continue}
-use Rattle.qk_rules.proofs.Answering.{by_form, by_result, wants, clear, stops, goes_on, as_before}
-use Rattle.qk_rules.proofs.Entering.{among, arrow_entered, block_entered, for_entered}
+use Rattle.qk_rules.proofs.Answering.{by_form, by_result, wants, clear, stops, goes_on, stops_at, past_item, at_end, as_before}
+use Rattle.qk_rules.proofs.Entering.{attribute_first, among, arrow_entered, block_entered, for_entered}
 use Rattle.qk_rules.proofs.walk.Walk.+walk.Goals as goal
 
 pub expression-returns-in-Undefined-clause-answers : goal.expression-returns-in-Undefined-clause-answers
@@ -114,15 +114,6 @@ block-returns-in_err-statements-clause-answers t c = by_form (block_entered c.ar
 pub block-returns-clause-answers : goal.block-returns-clause-answers
 block-returns-clause-answers t c = by_form (block_entered c.args.self.now c.enter_block.new.self c.args.statements.now c.in_ok-enter_block.ensures) c.in_ok-statements.ensures.answers
 
-pub markup-returns-in_err-tag-clause-answers : goal.markup-returns-in_err-tag-clause-answers
-markup-returns-in_err-tag-clause-answers t c = ?
-
-pub markup-returns-in_err-attributes-clause-answers : goal.markup-returns-in_err-attributes-clause-answers
-markup-returns-in_err-attributes-clause-answers t c = ?
-
-pub markup-returns-clause-answers : goal.markup-returns-clause-answers
-markup-returns-clause-answers t c = ?
-
 pub statement-returns-in-Const-clause-answers : goal.statement-returns-in-Const-clause-answers
 statement-returns-in-Const-clause-answers t c = by_form (ap (of_statement (place c.args.self.now) c.args.hooks) c.in-Const.is ∙ of_constant (place c.args.self.now) c.args.hooks c.in-Const.pattern c.in-Const.x ∙ ap (λ s. of_expression (place c.args.self.now) s c.in-Const.x) (sym c.const_standing.ensures)) c.expression.ensures.answers
 
@@ -173,3 +164,108 @@ statement-returns-in_err-block-in-ForOf-clause-answers t c = goes_on (ap (of_sta
 
 pub statement-returns-in_ok-block-in-ForOf-clause-answers : goal.statement-returns-in_ok-block-in-ForOf-clause-answers
 statement-returns-in_ok-block-in-ForOf-clause-answers t c = goes_on (ap (of_statement (place c.args.self.now) c.args.hooks) c.in-ForOf.is ∙ of_for (place c.args.self.now) c.args.hooks c.in-ForOf.name c.in-ForOf.x c.in-ForOf.inside ∙ for_entered c.args.self.now c.enter_for.new.self c.in-ForOf.name c.in-ForOf.x c.in-ForOf.inside c.in_ok-enter_for.ensures ∙ ap (λ ss. of_expression (place (among c.args.self.now c.enter_for.new.self)) Anywhere c.in-ForOf.x ++ of_block (place (among c.args.self.now c.enter_for.new.self)) ss) (sym c.as_slice-in-ForOf.ensures)) c.in_ok-expression-in-ForOf.ensures.answers (as_before (λ w. of_block (place w) c.as_slice-in-ForOf.result.now) c.in_ok-expression-in-ForOf.ensures.kept c.in_ok-block-in-ForOf.ensures.answers)
+
+pub expressions-returns-in_err-expression-clause-answers : goal.expressions-returns-in_err-expression-clause-answers
+expressions-returns-in_err-expression-clause-answers t c = stops_at (flat_map (of_expression (place c.args.self.now) (standing_of c.args.standing))) (flat_map (of_expression (place c.args.self.now) (standing_of c.args.standing))) (of_expression (place c.args.self.now) (standing_of c.args.standing) c.x-item.result) (flat_map (of_expression (place c.args.self.now) (standing_of c.args.standing)) c.args.xs.now) c.args.xs.now c.loop-x.x-index c.x-item.result (λ rest. refl) c.loop-x-test.true c.x-item.is c.loop-x.invariant.past c.from_residual.result c.in_err-expression.field-0.0 (as_before (λ w. of_expression (place w) (standing_of c.args.standing) c.x-item.result) c.loop-x.invariant.kept c.in_err-expression.ensures.answers) (search rules)
+
+pub expressions-loop-x-preserved : goal.expressions-loop-x-preserved
+expressions-loop-x-preserved t c = record {
+  past = past_item (flat_map (of_expression (place c.args.self.now) (standing_of c.args.standing))) (flat_map (of_expression (place c.args.self.now) (standing_of c.args.standing))) (of_expression (place c.args.self.now) (standing_of c.args.standing) c.x-item.result) (flat_map (of_expression (place c.args.self.now) (standing_of c.args.standing)) c.args.xs.now) c.args.xs.now c.loop-x.x-index c.x-item.result (λ rest. refl) c.loop-x-test.true c.x-item.is (as_before (λ w. of_expression (place w) (standing_of c.args.standing) c.x-item.result) c.loop-x.invariant.kept c.in_ok-expression.ensures.answers) c.loop-x.invariant.past;
+  kept = c.in_ok-expression.ensures.kept ∙ c.loop-x.invariant.kept;
+}
+
+pub expressions-returns-clause-answers : goal.expressions-returns-clause-answers
+expressions-returns-clause-answers t c = at_end (flat_map (of_expression (place c.args.self.now) (standing_of c.args.standing))) (flat_map (of_expression (place c.args.self.now) (standing_of c.args.standing)) c.args.xs.now) c.args.xs.now c.loop-x.x-index refl c.loop-x-test.false c.loop-x.invariant.past
+
+pub fields-returns-in_err-expression-clause-answers : goal.fields-returns-in_err-expression-clause-answers
+fields-returns-in_err-expression-clause-answers t c = stops_at (flat_map (of_field (place c.args.self.now))) (flat_map (of_field (place c.args.self.now))) (of_field (place c.args.self.now) c.field-item.result) (flat_map (of_field (place c.args.self.now)) c.args.fields.now) c.args.fields.now c.loop-field.field-index c.field-item.result (λ rest. refl) c.loop-field-test.true c.field-item.is c.loop-field.invariant.past c.from_residual.result c.in_err-expression.field-0.0 (as_before (λ w. of_field (place w) c.field-item.result) c.loop-field.invariant.kept c.in_err-expression.ensures.answers) (search rules)
+
+pub fields-loop-field-preserved : goal.fields-loop-field-preserved
+fields-loop-field-preserved t c = record {
+  past = past_item (flat_map (of_field (place c.args.self.now))) (flat_map (of_field (place c.args.self.now))) (of_field (place c.args.self.now) c.field-item.result) (flat_map (of_field (place c.args.self.now)) c.args.fields.now) c.args.fields.now c.loop-field.field-index c.field-item.result (λ rest. refl) c.loop-field-test.true c.field-item.is (as_before (λ w. of_field (place w) c.field-item.result) c.loop-field.invariant.kept c.in_ok-expression.ensures.answers) c.loop-field.invariant.past;
+  kept = c.in_ok-expression.ensures.kept ∙ c.loop-field.invariant.kept;
+}
+
+pub fields-returns-clause-answers : goal.fields-returns-clause-answers
+fields-returns-clause-answers t c = at_end (flat_map (of_field (place c.args.self.now))) (flat_map (of_field (place c.args.self.now)) c.args.fields.now) c.args.fields.now c.loop-field.field-index refl c.loop-field-test.false c.loop-field.invariant.past
+
+pub operands-returns-in_err-expression-clause-answers : goal.operands-returns-in_err-expression-clause-answers
+operands-returns-in_err-expression-clause-answers t c = stops_at (flat_map (of_operand (place c.args.self.now))) (flat_map (of_operand (place c.args.self.now))) (of_operand (place c.args.self.now) c.operand-item.result) (flat_map (of_operand (place c.args.self.now)) c.args.operands.now) c.args.operands.now c.loop-operand.operand-index c.operand-item.result (λ rest. refl) c.loop-operand-test.true c.operand-item.is c.loop-operand.invariant.past c.from_residual.result c.in_err-expression.field-0.0 (as_before (λ w. of_operand (place w) c.operand-item.result) c.loop-operand.invariant.kept c.in_err-expression.ensures.answers) (search rules)
+
+pub operands-loop-operand-preserved : goal.operands-loop-operand-preserved
+operands-loop-operand-preserved t c = record {
+  past = past_item (flat_map (of_operand (place c.args.self.now))) (flat_map (of_operand (place c.args.self.now))) (of_operand (place c.args.self.now) c.operand-item.result) (flat_map (of_operand (place c.args.self.now)) c.args.operands.now) c.args.operands.now c.loop-operand.operand-index c.operand-item.result (λ rest. refl) c.loop-operand-test.true c.operand-item.is (as_before (λ w. of_operand (place w) c.operand-item.result) c.loop-operand.invariant.kept c.in_ok-expression.ensures.answers) c.loop-operand.invariant.past;
+  kept = c.in_ok-expression.ensures.kept ∙ c.loop-operand.invariant.kept;
+}
+
+pub operands-returns-clause-answers : goal.operands-returns-clause-answers
+operands-returns-clause-answers t c = at_end (flat_map (of_operand (place c.args.self.now))) (flat_map (of_operand (place c.args.self.now)) c.args.operands.now) c.args.operands.now c.loop-operand.operand-index refl c.loop-operand-test.false c.loop-operand.invariant.past
+
+pub statements-returns-in_err-statement-clause-answers : goal.statements-returns-in_err-statement-clause-answers
+statements-returns-in_err-statement-clause-answers t c = stops_at (of_statements (place c.args.self.now) c.loop-statement.hooks) (of_statements (place c.args.self.now) (c.loop-statement.hooks && lets_hooks_follow c.statement-item.result)) (of_statement (place c.args.self.now) c.loop-statement.hooks c.statement-item.result) (of_statements (place c.args.self.now) c.args.first c.args.statements.now) c.args.statements.now c.loop-statement.statement-index c.statement-item.result (λ rest. refl) c.loop-statement-test.true c.statement-item.is c.loop-statement.invariant.past c.from_residual.result c.in_err-statement.field-0.0 (as_before (λ w. of_statement (place w) c.loop-statement.hooks c.statement-item.result) c.loop-statement.invariant.kept c.in_err-statement.ensures.answers) (search rules)
+
+pub statements-loop-statement-preserved : goal.statements-loop-statement-preserved
+statements-loop-statement-preserved t c = record {
+  past = ap (λ b. of_statements (place c.args.self.now) b (drop (c.loop-statement.statement-index + 1) c.args.statements.now)) c.hooks_behind-next.ensures ∙ past_item (of_statements (place c.args.self.now) c.loop-statement.hooks) (of_statements (place c.args.self.now) (c.loop-statement.hooks && lets_hooks_follow c.statement-item.result)) (of_statement (place c.args.self.now) c.loop-statement.hooks c.statement-item.result) (of_statements (place c.args.self.now) c.args.first c.args.statements.now) c.args.statements.now c.loop-statement.statement-index c.statement-item.result (λ rest. refl) c.loop-statement-test.true c.statement-item.is (as_before (λ w. of_statement (place w) c.loop-statement.hooks c.statement-item.result) c.loop-statement.invariant.kept c.in_ok-statement.ensures.answers) c.loop-statement.invariant.past;
+  kept = c.in_ok-statement.ensures.kept ∙ c.loop-statement.invariant.kept;
+}
+
+pub statements-returns-clause-answers : goal.statements-returns-clause-answers
+statements-returns-clause-answers t c = at_end (of_statements (place c.args.self.now) c.loop-statement.hooks) (of_statements (place c.args.self.now) c.args.first c.args.statements.now) c.args.statements.now c.loop-statement.statement-index refl c.loop-statement-test.false c.loop-statement.invariant.past
+
+pub attributes-loop-attribute-init : goal.attributes-loop-attribute-init
+attributes-loop-attribute-init t c = record { past = ap (λ e. of_attributes (place c.args.self.now) c.args.tag.now e c.args.attributes.now) c.new-earlier.ensures; kept = refl }
+
+pub attributes-returns-in_err-longer-clause-answers : goal.attributes-returns-in_err-longer-clause-answers
+attributes-returns-in_err-longer-clause-answers t c = stops_at (of_attributes (place c.args.self.now) c.args.tag.now c.loop-attribute.earlier) (of_attributes (place c.args.self.now) c.args.tag.now (c.loop-attribute.earlier ++ c.attribute-item.result.key ∷ [])) (attribute_breaches c.args.tag.now c.attribute-item.result c.loop-attribute.earlier ++ of_expression (place c.args.self.now) Anywhere c.attribute-item.result.value) (of_attributes (place c.args.self.now) c.args.tag.now [] c.args.attributes.now) c.args.attributes.now c.loop-attribute.attribute-index c.attribute-item.result (attribute_first (place c.args.self.now) c.args.tag.now c.loop-attribute.earlier c.attribute-item.result) c.loop-attribute-test.true c.attribute-item.is c.loop-attribute.invariant.past c.from_residual.result c.in_err-longer.field-0.0 (stops (of_expression (place c.args.self.now) Anywhere c.attribute-item.result.value) refl (record { comes = c.in_err-longer.ensures.err }) refl) (search rules)
+
+pub attributes-returns-in_err-expression-clause-answers : goal.attributes-returns-in_err-expression-clause-answers
+attributes-returns-in_err-expression-clause-answers t c = stops_at (of_attributes (place c.args.self.now) c.args.tag.now c.loop-attribute.earlier) (of_attributes (place c.args.self.now) c.args.tag.now (c.loop-attribute.earlier ++ c.attribute-item.result.key ∷ [])) (attribute_breaches c.args.tag.now c.attribute-item.result c.loop-attribute.earlier ++ of_expression (place c.args.self.now) Anywhere c.attribute-item.result.value) (of_attributes (place c.args.self.now) c.args.tag.now [] c.args.attributes.now) c.args.attributes.now c.loop-attribute.attribute-index c.attribute-item.result (attribute_first (place c.args.self.now) c.args.tag.now c.loop-attribute.earlier c.attribute-item.result) c.loop-attribute-test.true c.attribute-item.is c.loop-attribute.invariant.past c.from_residual-in_err-expression.result c.in_err-expression.field-0.0 (goes_on refl (clear c.in_ok-longer.ensures.ok.0) (as_before (λ w. of_expression (place w) Anywhere c.attribute-item.result.value) c.loop-attribute.invariant.kept c.in_err-expression.ensures.answers)) (search rules)
+
+pub attributes-loop-attribute-preserved : goal.attributes-loop-attribute-preserved
+attributes-loop-attribute-preserved t c = record {
+  past = ap (λ e. of_attributes (place c.args.self.now) c.args.tag.now e (drop (c.loop-attribute.attribute-index + 1) c.args.attributes.now)) c.in_ok-longer.ensures.ok.1 ∙ past_item (of_attributes (place c.args.self.now) c.args.tag.now c.loop-attribute.earlier) (of_attributes (place c.args.self.now) c.args.tag.now (c.loop-attribute.earlier ++ c.attribute-item.result.key ∷ [])) (attribute_breaches c.args.tag.now c.attribute-item.result c.loop-attribute.earlier ++ of_expression (place c.args.self.now) Anywhere c.attribute-item.result.value) (of_attributes (place c.args.self.now) c.args.tag.now [] c.args.attributes.now) c.args.attributes.now c.loop-attribute.attribute-index c.attribute-item.result (attribute_first (place c.args.self.now) c.args.tag.now c.loop-attribute.earlier c.attribute-item.result) c.loop-attribute-test.true c.attribute-item.is (goes_on refl (clear c.in_ok-longer.ensures.ok.0) (as_before (λ w. of_expression (place w) Anywhere c.attribute-item.result.value) c.loop-attribute.invariant.kept c.in_ok-expression.ensures.answers)) c.loop-attribute.invariant.past;
+  kept = c.in_ok-expression.ensures.kept ∙ c.loop-attribute.invariant.kept;
+}
+
+pub attributes-returns-clause-answers : goal.attributes-returns-clause-answers
+attributes-returns-clause-answers t c = at_end (of_attributes (place c.args.self.now) c.args.tag.now c.loop-attribute.earlier) (of_attributes (place c.args.self.now) c.args.tag.now [] c.args.attributes.now) c.args.attributes.now c.loop-attribute.attribute-index refl c.loop-attribute-test.false c.loop-attribute.invariant.past
+
+pub arguments-returns-in_err-expression-clause-answers : goal.arguments-returns-in_err-expression-clause-answers
+arguments-returns-in_err-expression-clause-answers t c = stops (flat_map (of_expression (place c.args.self.now) (standing_of c.argument_of-behind.result)) c.in-Some.later.now) (ap (of_arguments (place c.args.self.now) (option_copied c.args.callee)) c.in-Some.ensures.cases.0 ∙ ap (λ s. of_expression (place c.args.self.now) s c.in-Some.first.now ++ flat_map (of_expression (place c.args.self.now) (argument_of (option_copied c.args.callee) false)) c.in-Some.later.now) (sym c.argument_of.ensures) ∙ ap (λ s. of_expression (place c.args.self.now) (standing_of c.argument_of.result) c.in-Some.first.now ++ flat_map (of_expression (place c.args.self.now) s) c.in-Some.later.now) (sym c.argument_of-behind.ensures)) c.in_err-expression.ensures.answers (search rules)
+
+pub arguments-returns-in_err-expression-2-clause-answers : goal.arguments-returns-in_err-expression-2-clause-answers
+arguments-returns-in_err-expression-2-clause-answers t c = goes_on (ap (of_arguments (place c.args.self.now) (option_copied c.args.callee)) c.in-Some.ensures.cases.0 ∙ ap (λ s. of_expression (place c.args.self.now) s c.in-Some.first.now ++ flat_map (of_expression (place c.args.self.now) (argument_of (option_copied c.args.callee) false)) c.in-Some.later.now) (sym c.argument_of.ensures) ∙ ap (λ s. of_expression (place c.args.self.now) (standing_of c.argument_of.result) c.in-Some.first.now ++ flat_map (of_expression (place c.args.self.now) s) c.in-Some.later.now) (sym c.argument_of-behind.ensures)) c.in_ok-expression.ensures.answers (stops_at (flat_map (of_expression (place c.args.self.now) (standing_of c.argument_of-behind.result))) (flat_map (of_expression (place c.args.self.now) (standing_of c.argument_of-behind.result))) (of_expression (place c.args.self.now) (standing_of c.argument_of-behind.result) c.x-item.result) (flat_map (of_expression (place c.args.self.now) (standing_of c.argument_of-behind.result)) c.in-Some.later.now) c.in-Some.later.now c.loop-x.x-index c.x-item.result (λ rest. refl) c.loop-x-test.true c.x-item.is c.loop-x.invariant.past _ c.in_err-expression-2.field-0.0 (as_before (λ w. of_expression (place w) (standing_of c.argument_of-behind.result) c.x-item.result) c.loop-x.invariant.kept c.in_err-expression-2.ensures.answers) (search rules))
+
+pub arguments-loop-x-preserved : goal.arguments-loop-x-preserved
+arguments-loop-x-preserved t c = record {
+  past = past_item (flat_map (of_expression (place c.args.self.now) (standing_of c.argument_of-behind.result))) (flat_map (of_expression (place c.args.self.now) (standing_of c.argument_of-behind.result))) (of_expression (place c.args.self.now) (standing_of c.argument_of-behind.result) c.x-item.result) (flat_map (of_expression (place c.args.self.now) (standing_of c.argument_of-behind.result)) c.in-Some.later.now) c.in-Some.later.now c.loop-x.x-index c.x-item.result (λ rest. refl) c.loop-x-test.true c.x-item.is (as_before (λ w. of_expression (place w) (standing_of c.argument_of-behind.result) c.x-item.result) c.loop-x.invariant.kept c.in_ok-expression-2.ensures.answers) c.loop-x.invariant.past;
+  kept = c.in_ok-expression-2.ensures.kept ∙ c.loop-x.invariant.kept;
+}
+
+pub arguments-returns-clause-answers : goal.arguments-returns-clause-answers
+arguments-returns-clause-answers t c = goes_on (ap (of_arguments (place c.args.self.now) (option_copied c.args.callee)) c.in-Some.ensures.cases.0 ∙ ap (λ s. of_expression (place c.args.self.now) s c.in-Some.first.now ++ flat_map (of_expression (place c.args.self.now) (argument_of (option_copied c.args.callee) false)) c.in-Some.later.now) (sym c.argument_of.ensures) ∙ ap (λ s. of_expression (place c.args.self.now) (standing_of c.argument_of.result) c.in-Some.first.now ++ flat_map (of_expression (place c.args.self.now) s) c.in-Some.later.now) (sym c.argument_of-behind.ensures)) c.in_ok-expression.ensures.answers (at_end (flat_map (of_expression (place c.args.self.now) (standing_of c.argument_of-behind.result))) (flat_map (of_expression (place c.args.self.now) (standing_of c.argument_of-behind.result)) c.in-Some.later.now) c.in-Some.later.now c.loop-x.x-index refl c.loop-x-test.false c.loop-x.invariant.past)
+
+pub links-returns-in_err-link-clause-answers : goal.links-returns-in_err-link-clause-answers
+links-returns-in_err-link-clause-answers t c = stops (flat_map (of_link (place c.args.self.now) None) c.in-Some.later.now) (ap (of_links (place c.args.self.now) (option_copied c.args.callee)) c.in-Some.ensures.cases.0) c.in_err-link.ensures.answers (search rules)
+
+pub links-returns-in_err-link-2-clause-answers : goal.links-returns-in_err-link-2-clause-answers
+links-returns-in_err-link-2-clause-answers t c = goes_on (ap (of_links (place c.args.self.now) (option_copied c.args.callee)) c.in-Some.ensures.cases.0) c.in_ok-link.ensures.answers (stops_at (flat_map (of_link (place c.args.self.now) None)) (flat_map (of_link (place c.args.self.now) None)) (of_link (place c.args.self.now) None c.link-item.result) (flat_map (of_link (place c.args.self.now) None) c.in-Some.later.now) c.in-Some.later.now c.loop-link.link-index c.link-item.result (λ rest. refl) c.loop-link-test.true c.link-item.is c.loop-link.invariant.past _ c.in_err-link-2.field-0.0 (as_before (λ w. of_link (place w) None c.link-item.result) c.loop-link.invariant.kept c.in_err-link-2.ensures.answers) (search rules))
+
+pub links-loop-link-preserved : goal.links-loop-link-preserved
+links-loop-link-preserved t c = record {
+  past = past_item (flat_map (of_link (place c.args.self.now) None)) (flat_map (of_link (place c.args.self.now) None)) (of_link (place c.args.self.now) None c.link-item.result) (flat_map (of_link (place c.args.self.now) None) c.in-Some.later.now) c.in-Some.later.now c.loop-link.link-index c.link-item.result (λ rest. refl) c.loop-link-test.true c.link-item.is (as_before (λ w. of_link (place w) None c.link-item.result) c.loop-link.invariant.kept c.in_ok-link-2.ensures.answers) c.loop-link.invariant.past;
+  kept = c.in_ok-link-2.ensures.kept ∙ c.loop-link.invariant.kept;
+}
+
+pub links-returns-clause-answers : goal.links-returns-clause-answers
+links-returns-clause-answers t c = goes_on (ap (of_links (place c.args.self.now) (option_copied c.args.callee)) c.in-Some.ensures.cases.0) c.in_ok-link.ensures.answers (at_end (flat_map (of_link (place c.args.self.now) None)) (flat_map (of_link (place c.args.self.now) None) c.in-Some.later.now) c.in-Some.later.now c.loop-link.link-index refl c.loop-link-test.false c.loop-link.invariant.past)
+
+pub markup-returns-in_err-tag-clause-answers : goal.markup-returns-in_err-tag-clause-answers
+markup-returns-in_err-tag-clause-answers t c = stops (of_attributes (place c.args.self.now) (out-Jsx c.args.jsx.now).tag [] (out-Jsx c.args.jsx.now).attrs ++ flat_map (of_expression (place c.args.self.now) Anywhere) (out-Jsx c.args.jsx.now).children) (of_jsx (place c.args.self.now) c.args.jsx.now ∙ ap (λ any. of_tag (place c.args.self.now) (out-Jsx c.args.jsx.now).tag any ++ (of_attributes (place c.args.self.now) (out-Jsx c.args.jsx.now).tag [] (out-Jsx c.args.jsx.now).attrs ++ flat_map (of_expression (place c.args.self.now) Anywhere) (out-Jsx c.args.jsx.now).children)) (sym (c.has_children.ensures ∙ ap is_any c.as_slice-children.ensures))) c.in_err-tag.ensures (search rules)
+
+pub markup-returns-in_err-attributes-clause-answers : goal.markup-returns-in_err-attributes-clause-answers
+markup-returns-in_err-attributes-clause-answers t c = goes_on (of_jsx (place c.args.self.now) c.args.jsx.now ∙ ap (λ any. of_tag (place c.args.self.now) (out-Jsx c.args.jsx.now).tag any ++ (of_attributes (place c.args.self.now) (out-Jsx c.args.jsx.now).tag [] (out-Jsx c.args.jsx.now).attrs ++ flat_map (of_expression (place c.args.self.now) Anywhere) (out-Jsx c.args.jsx.now).children)) (sym (c.has_children.ensures ∙ ap is_any c.as_slice-children.ensures))) c.in_ok-tag.ensures (stops (flat_map (of_expression (place c.args.self.now) Anywhere) (out-Jsx c.args.jsx.now).children) (ap (λ fs. of_attributes (place c.args.self.now) (out-Jsx c.args.jsx.now).tag [] fs ++ flat_map (of_expression (place c.args.self.now) Anywhere) (out-Jsx c.args.jsx.now).children) (sym c.as_slice.ensures)) c.in_err-attributes.ensures.answers (search rules))
+
+pub markup-returns-clause-answers : goal.markup-returns-clause-answers
+markup-returns-clause-answers t c = goes_on (of_jsx (place c.args.self.now) c.args.jsx.now ∙ ap (λ any. of_tag (place c.args.self.now) (out-Jsx c.args.jsx.now).tag any ++ (of_attributes (place c.args.self.now) (out-Jsx c.args.jsx.now).tag [] (out-Jsx c.args.jsx.now).attrs ++ flat_map (of_expression (place c.args.self.now) Anywhere) (out-Jsx c.args.jsx.now).children)) (sym (c.has_children.ensures ∙ ap is_any c.as_slice-children.ensures))) c.in_ok-tag.ensures (goes_on (ap (λ fs. of_attributes (place c.args.self.now) (out-Jsx c.args.jsx.now).tag [] fs ++ flat_map (of_expression (place c.args.self.now) Anywhere) (out-Jsx c.args.jsx.now).children) (sym c.as_slice.ensures) ∙ ap (λ xs. of_attributes (place c.args.self.now) (out-Jsx c.args.jsx.now).tag [] c.as_slice.result.now ++ flat_map (of_expression (place c.args.self.now) Anywhere) xs) (sym c.as_slice-children.ensures)) c.in_ok-attributes.ensures.answers (as_before (λ w. flat_map (of_expression (place w) Anywhere) c.as_slice-children.result.now) c.in_ok-attributes.ensures.kept c.expressions.ensures.answers))

@@ -1,6 +1,4 @@
-use Rattle.std.specs.Prelude.{◌≡◌, [], None, false, drop, flat_map}
-use Rattle.std.specs.Option.{option_copied}
-use Rattle.qk_ast.specs.Spots.{Anywhere, argument_of}
+use Rattle.std.specs.Prelude.{◌≡◌, [], None, drop, flat_map}
 use Rattle.qk_rules.specs.Standings.{standing_of}
 use Rattle.qk_rules.specs.Parts.{of_expression, of_field, of_operand, of_link, of_statements, of_attributes}
 use Rattle.qk_rules.specs.Walking.{place}
@@ -14,7 +12,7 @@ invariant-expressions-loop-x l = record {
 
 abbrev pub invariant-arguments-loop-x : goal.invariant-arguments-loop-x
 invariant-arguments-loop-x l = record {
-  past : flat_map (of_expression (place l.fn.self) (argument_of (option_copied l.callee) false)) (drop l.x-index l.later) ≡ flat_map (of_expression (place l.fn.self) (argument_of (option_copied l.callee) false)) l.later;
+  past : flat_map (of_expression (place l.fn.self) (standing_of l.behind)) (drop l.x-index l.later) ≡ flat_map (of_expression (place l.fn.self) (standing_of l.behind)) l.later;
   kept : l.self ≡ l.fn.self;
 }
 
