@@ -1,5 +1,5 @@
 -- What each form of a tree breaks: what its parts break, one after another.
-use Rattle.std.specs.Prelude.{◌≡◌, refl, ℕ, Bool, true, false, ◌&&◌, List, [], ◌∷◌, ◌++◌, flat_map, Option, Some, None}
+use Rattle.std.specs.Prelude.{◌≡◌, refl, ℕ, ℤ, Bool, true, false, ◌&&◌, List, [], ◌∷◌, ◌++◌, flat_map, Option, Some, None}
 use Rattle.std.proofs.Common.{sym, ◌∙◌, ap}
 use Rattle.std.proofs.lemmas.List.{append_assoc, append-nil}
 use denote.Hole.Carrier.{hidden, roll}
@@ -28,7 +28,7 @@ use Rattle.qk_ast.specs.Spots.{Standing, Anywhere, Root_value, Hook_statement, C
 use Rattle.qk_ast.specs.Placing.{Root_kind, Placing_breach, placing_breaches}
 use Rattle.qk_locals.specs.Layers.{block_of}
 use Rattle.qk_rules.specs.Standings.{called_by}
-use Rattle.qk_rules.specs.Parts.{Place, inside, broken, of_name, of_expression, of_field, of_operand, of_arguments, of_link, of_links, of_head, of_head_named, is_any, of_tag, of_attribute, of_attributes, of_markup, of_body, of_arrow, of_statement, of_statements, of_block, of_returned, of_repeated, of_item}
+use Rattle.qk_rules.specs.Parts.{Place, inside, broken, of_name, of_expression, of_field, of_operand, of_arguments, of_link, of_links, of_head, of_head_named, is_any, of_tag, of_attribute, of_attributes, of_markup, of_body, of_arrow, of_statement, of_statements, of_block, of_returned, of_item}
 use Rattle.qk_rules.proofs.Rows.{called_row}
 
 -- ---- spots one after another
@@ -151,9 +151,9 @@ unfolding of_expression of_name shape-the_row-Expr-0 hidden-the_row-Expr-0 hidde
 of_post p standing head ls = by (name_in head)
   where
     by : (o : Option Text) → broken p (elim o as (λ _. List Spot) [
-          | Some name ↦ Named name (called (hidden-the_row-Link-5 ls)) standing p.scopes ∷ link_spots (hidden-the_row-Link-5 ls) (Some name) p.scopes
-          | None ↦ spots head Anywhere p.scopes ++ link_spots (hidden-the_row-Link-5 ls) None p.scopes
-        ]) ≡ of_head_named p o head (called_by ls) standing ++ of_links p o ls
+      | Some name ↦ Named name (called (hidden-the_row-Link-5 ls)) standing p.scopes ∷ link_spots (hidden-the_row-Link-5 ls) (Some name) p.scopes
+      | None ↦ spots head Anywhere p.scopes ++ link_spots (hidden-the_row-Link-5 ls) None p.scopes
+    ]) ≡ of_head_named p o head (called_by ls) standing ++ of_links p o ls
     by (Some name) = two p (Named name (called (hidden-the_row-Link-5 ls)) standing p.scopes ∷ []) (link_spots (hidden-the_row-Link-5 ls) (Some name) p.scopes) _ _
         (ap (λ call. broken p (Named name call standing p.scopes ∷ [])) (called_row ls)) (links_row p (Some name) ls)
     by None = two p (spots head Anywhere p.scopes) (link_spots (hidden-the_row-Link-5 ls) None p.scopes) _ _ refl (links_row p None ls)
@@ -177,6 +177,43 @@ of_function p standing place params body = refl
 pub of_element : (p : Place) (standing : Standing) (jsx : Jsx) → of_expression p standing (e.Jsx jsx) ≡ of_markup p jsx
 unfolding of_expression of_markup shape-the_row-Jsx-7 hidden-the_row-Jsx-7 hidden
 of_element p standing jsx = refl
+
+-- what breaks nothing
+pub of_undefined : (p : Place) (standing : Standing) → of_expression p standing e.Undefined ≡ []
+unfolding of_expression broken
+of_undefined p standing = refl
+
+pub of_null : (p : Place) (standing : Standing) → of_expression p standing e.Null ≡ []
+unfolding of_expression broken
+of_null p standing = refl
+
+pub of_bool : (p : Place) (standing : Standing) (b : Bool) → of_expression p standing (e.Bool b) ≡ []
+unfolding of_expression broken
+of_bool p standing b = refl
+
+pub of_int : (p : Place) (standing : Standing) (n : ℤ) → of_expression p standing (e.Int n) ≡ []
+unfolding of_expression broken
+of_int p standing n = refl
+
+pub of_text : (p : Place) (standing : Standing) (t : Text) → of_expression p standing (e.Text t) ≡ []
+unfolding of_expression broken
+of_text p standing t = refl
+
+pub of_property : (p : Place) (callee : Option Text) (name : Text) → of_link p callee (l.Prop name) ≡ []
+unfolding of_link
+of_property p callee name = refl
+
+pub of_index : (p : Place) (callee : Option Text) (x : Expr) → of_link p callee (l.Index x) ≡ of_expression p Anywhere x
+unfolding of_link
+of_index p callee x = refl
+
+pub of_break : (p : Place) (hooks : Bool) → of_statement p hooks s.Break ≡ []
+unfolding of_statement broken
+of_break p hooks = refl
+
+pub of_continue : (p : Place) (hooks : Bool) → of_statement p hooks s.Continue ≡ []
+unfolding of_statement broken
+of_continue p hooks = refl
 
 pub of_call : (p : Place) (callee : Option Text) (xs : List Expr) → of_link p callee (l.Call xs) ≡ of_arguments p callee xs
 unfolding of_link
@@ -235,11 +272,11 @@ unfolding of_statement of_expression
 of_if p hooks x ss ts = two p (spots x Anywhere p.scopes) (block_spots (hidden-the_row-Stmt-1 ss) false (block_scope (hidden-the_row-Stmt-1 ss) ∷ p.scopes) ++ block_spots (hidden-the_row-Stmt-1 ts) false (block_scope (hidden-the_row-Stmt-1 ts) ∷ p.scopes)) _ _ refl
     (two p (block_spots (hidden-the_row-Stmt-1 ss) false (block_scope (hidden-the_row-Stmt-1 ss) ∷ p.scopes)) (block_spots (hidden-the_row-Stmt-1 ts) false (block_scope (hidden-the_row-Stmt-1 ts) ∷ p.scopes)) _ _ (block_row p ss) (block_row p ts))
 
-pub of_while : (p : Place) (hooks : Bool) (x : Expr) (ss : List Stmt) → of_statement p hooks (s.While x ss) ≡ of_repeated p x ss
+pub of_while : (p : Place) (hooks : Bool) (x : Expr) (ss : List Stmt) → of_statement p hooks (s.While x ss) ≡ of_expression p Anywhere x ++ of_block p ss
 unfolding of_statement of_expression
 of_while p hooks x ss = two p (spots x Anywhere p.scopes) (block_spots (hidden-the_row-Stmt-1 ss) false (block_scope (hidden-the_row-Stmt-1 ss) ∷ p.scopes)) _ _ refl (block_row p ss)
 
-pub of_for : (p : Place) (hooks : Bool) (name : Text) (x : Expr) (ss : List Stmt) → of_statement p hooks (s.ForOf name x ss) ≡ of_repeated (inside (for_scope [] name) p) x ss
+pub of_for : (p : Place) (hooks : Bool) (name : Text) (x : Expr) (ss : List Stmt) → of_statement p hooks (s.ForOf name x ss) ≡ of_expression (inside (for_scope [] name) p) Anywhere x ++ of_block (inside (for_scope [] name) p) ss
 unfolding of_statement of_expression broken
 of_for p hooks name x ss = let q = inside (for_scope [] name) p in
     two q (spots x Anywhere q.scopes) (block_spots (hidden-the_row-Stmt-1 ss) false (block_scope (hidden-the_row-Stmt-1 ss) ∷ q.scopes)) _ _ refl (block_row q ss)
@@ -250,10 +287,10 @@ of_inner_block p hooks ss = block_row p ss
 
 -- ---- items
 
-pub items_row : (file : Text) (roots : Text → Root_kind) (items : List Root_item) → flat_map (placing_breaches file roots) (item_spots items) ≡ flat_map (of_item file roots) items
+pub items_row : (file : Text) (roots : Text → Root_kind) (items : List Root_item) → flat_map (placing_breaches file roots) (item_spots items) ≡ flat_map (of_item (record { file = file; roots = roots; scopes = [] })) items
 unfolding of_item of_expression broken
 items_row file roots [] = refl
 items_row file roots (i ∷ rest) = let spotted = spots i.init Root_value [] in
     ap (λ later. placing_breaches file roots (Item i.name i.init) ++ later)
     (flat_both (placing_breaches file roots) spotted (item_spots rest) ∙ ap (λ later. flat_map (placing_breaches file roots) spotted ++ later) (items_row file roots rest))
-    ∙ sym (append_assoc (placing_breaches file roots (Item i.name i.init)) (flat_map (placing_breaches file roots) spotted) (flat_map (of_item file roots) rest))
+    ∙ sym (append_assoc (placing_breaches file roots (Item i.name i.init)) (flat_map (placing_breaches file roots) spotted) (flat_map (of_item (record { file = file; roots = roots; scopes = [] })) rest))

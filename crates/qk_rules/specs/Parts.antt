@@ -1,5 +1,5 @@
 -- What the parts of a module break, by what the tree holds in lists.
-use Rattle.std.specs.Prelude.{Bool, true, false, ◌&&◌, List, [], ◌∷◌, ◌++◌, flat_map, Option, Some, None}
+use Rattle.std.specs.Prelude.{Bool, true, false, not, ◌&&◌, List, [], ◌∷◌, ◌++◌, flat_map, Option, Some, None}
 use Rattle.qk_ast.specs.declared.Item.{Item as Root_item}
 use Rattle.qk_ast.specs.declared.Tag.{Tag}
 use Rattle.qk_ast.specs.declared.Expr.{Expr}
@@ -14,8 +14,11 @@ use Rattle.qk_ast.specs.Texts.{Text}
 use Rattle.qk_ast.specs.Scopes.{Scope, arrow_scope}
 use Rattle.qk_locals.specs.Layers.{block_of}
 use Rattle.qk_ast.specs.Mentions.{name_in}
-use Rattle.qk_ast.specs.Spots.{Standing, Anywhere, Root_value, Argument, Called, Spot, Item, Named, Tagged, Attributed, argument_of, standing_mark, is_component_arrow, lets_hooks_follow, spots, all_spots, jsx_spots, statement_spots, body_spots}
-use Rattle.qk_ast.specs.Placing.{Root_kind, Placing_breach, placing_breaches}
+use Rattle.qk_ast.specs.Spots.{Standing, Anywhere, Root_value, Argument, Called, Spot, Named, Tagged, Attributed, argument_of, standing_mark, is_component_arrow, lets_hooks_follow, spots, all_spots, jsx_spots, statement_spots, body_spots}
+use Rattle.qk_ast.specs.declared.RuleKind.TheVariants.{TagRefused}
+use Rattle.qk_ast.specs.Tags.{is_element, is_attribute}
+use Rattle.qk_ast.specs.Placing.{Root_kind, Placing_breach, refuse_if, item_breaches, placing_breaches}
+use Rattle.qk_rules.specs.Breaches.{component_breaches}
 
 -- In the module of this name, with these kinds of the names of its root and these scopes around.
 pub record Place : Type 0 where
@@ -68,6 +71,17 @@ of_head p head call standing = of_head_named p (name_in head) head call standing
 
 -- ---- elements
 
+abbrev pub element_breaches : Text → (children : Bool) → List Placing_breach
+element_breaches name children = refuse_if (not (is_element name children)) TagRefused name
+
+abbrev pub tag_breaches : (Text → Root_kind) → Tag → (children : Bool) → List Scope → List Placing_breach
+tag_breaches roots (Tag.Element name) children scopes = element_breaches name children
+tag_breaches roots (Tag.Component name) children scopes = component_breaches roots name children scopes
+tag_breaches roots Tag.Fragment children scopes = []
+
+abbrev pub attribute_breaches : Tag → Field → (earlier : List Text) → List Placing_breach
+attribute_breaches tag f earlier = refuse_if (not (is_attribute tag f.key f.value earlier)) TagRefused f.key
+
 abbrev pub is_any : List Expr → Bool
 is_any [] = false
 is_any (x ∷ rest) = true
@@ -107,11 +121,7 @@ abbrev pub of_returned : Place → Option Expr → List Placing_breach
 of_returned p None = []
 of_returned p (Some x) = of_expression p Anywhere x
 
--- a `for` over the items of a list, inside the scope of its name
-abbrev pub of_repeated : Place → Expr → List Stmt → List Placing_breach
-of_repeated p x statements = of_expression p Anywhere x ++ of_block p statements
-
 -- ---- items
 
-unfoldable pub of_item : Text → (Text → Root_kind) → Root_item → List Placing_breach
-of_item file roots i = placing_breaches file roots (Item i.name i.init) ++ of_expression (record { file = file; roots = roots; scopes = [] }) Root_value i.init
+unfoldable pub of_item : Place → Root_item → List Placing_breach
+of_item p i = item_breaches p.file i.name i.init ++ of_expression p Root_value i.init

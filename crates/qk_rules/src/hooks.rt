@@ -64,8 +64,15 @@ pub(crate) fn const_standing(pattern: &Pattern, hooks: bool) -> Standing<'static
     }
 }
 
+/// Whether hooks may stand behind the statement, by whether they may before it.
+pub(crate) fn hooks_behind(hooks: bool, statement: &Stmt) -> bool
+    ensures { result ≡ (hooks && spots.lets_hooks_follow statement.now) }
+{
+    hooks && lets_hooks_follow(statement)
+}
+
 /// Whether hooks may stand behind the statement where they may before it.
-pub(crate) fn lets_hooks_follow(statement: &Stmt) -> bool
+fn lets_hooks_follow(statement: &Stmt) -> bool
     ensures { result ≡ spots.lets_hooks_follow statement.now }
 {
     match statement {

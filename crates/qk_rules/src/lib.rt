@@ -12,6 +12,7 @@ mod roots;
 mod sites;
 mod standing;
 mod tags;
+mod telling;
 mod uses;
 mod walk;
 

@@ -3,7 +3,6 @@
 ghost use Rattle.std.specs.Prelude.{◌≡◌};
 ghost use Rattle.std.specs.Option.{option_copied};
 ghost use Rattle.qk_ast.specs.Mentions.{name_in};
-
 ghost use Rattle.qk_rules.specs.Standings.{standing_of, called_of, called_by};
 
 use qk_ast::{Expr, Link, Pattern, Stmt};

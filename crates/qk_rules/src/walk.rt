@@ -1,18 +1,23 @@
 //! The walk over a module that finds the first breach of the rules of places.
 
-ghost use Rattle.std.specs.Prelude.{◌≡◌, [], flat_map, None, OnOk};
+ghost use Rattle.std.specs.Prelude.{◌≡◌, [], flat_map, OnOk};
 ghost use Rattle.std.specs.Option.{option_copied};
 ghost use Rattle.qk_ast.specs.Spots.{Anywhere};
-ghost use Rattle.qk_rules.specs.Standings.{standing_of, called_of, called_by};
+ghost use Rattle.qk_rules.specs.Standings.{standing_of, called_of};
 ghost use Rattle.qk_rules.specs.Checking.{Answers};
-ghost use Rattle.qk_rules.specs.Parts.{inside, of_name, of_expression, of_field, of_operand, of_arguments, of_link, of_links, of_tag, of_attributes, of_markup, of_body, of_arrow, of_statement, of_statements, of_block, of_returned, of_repeated, of_item, of_head};
+ghost use Rattle.qk_rules.specs.Parts.{of_name, of_expression, of_field, of_operand, of_arguments, of_link, of_links, of_tag, of_attributes, of_markup, of_body, of_arrow, of_statement, of_statements, of_block, of_returned, of_head, of_item};
+ghost use Rattle.qk_rules.specs.Root_table.{kind_by};
 ghost use Rattle.qk_rules.specs.Walking.{place};
 
 use crate::RuleFault;
+use crate::earlier::Earlier;
+use crate::hooks::{
+    argument_of, const_standing, hooks_behind, is_component_arrow, mark_there, where_hooks,
+};
 use crate::roots::Roots;
-use crate::hooks::{argument_of, const_standing, is_component_arrow, lets_hooks_follow, mark_there, where_hooks};
 use crate::standing::{Called, Standing, call_by, name_in};
-use qk_ast::{Arrow, Body, Expr, Field, Jsx, Link, Operand, Stmt, Tag};
+use crate::telling::{has_children, item_told, name_told, tag_told, with_attribute};
+use qk_ast::{Arrow, Body, Expr, Field, Item, Jsx, Link, Operand, Stmt, Tag};
 use qk_locals::Scopes;
 use qk_shared::Text;
 use std::alloc::Global;
@@ -27,16 +32,53 @@ pub(crate) struct Walk<'a> {
 }
 
 impl<'a> Walk<'a> {
-    fn name(&self, name: &'a Text, call: Called<'a>, standing: Standing<'a>) -> Result<(), RuleFault>
+    /// At the begin of a module of that name.
+    #[tactic(auto, unfolding(crate::specs::Walking::place))]
+    pub(crate) fn new(alloc: Global, file: &'a str, roots: Roots<'a>) -> Walk<'a>
+        ensures { place result ≡ record { file = file.now; roots = kind_by roots.entry; scopes = [] } }
+    {
+        Walk {
+            alloc,
+            file,
+            roots,
+            scopes: Scopes::new(alloc),
+        }
+    }
+
+    /// The items of the root, outside of all scopes.
+    pub(crate) fn items(&mut self, items: &'a [Item]) -> Result<(), RuleFault>
+        ensures answers { Answers (flat_map (of_item (place self.old)) items.now) result }
+        ensures kept { OnOk result (self.new ≡ self.old) }
+    {
+        for item in items {
+            self.item(item)?;
+        }
+        Ok(())
+    }
+
+    fn item(&mut self, item: &'a Item) -> Result<(), RuleFault>
+        ensures answers { Answers (of_item (place self.old) item.now) result }
+        ensures kept { OnOk result (self.new ≡ self.old) }
+    {
+        item_told(self.file, item)?;
+        self.expression(&item.init, Standing::RootValue)
+    }
+
+    fn name(
+        &self,
+        name: &'a Text,
+        call: Called<'a>,
+        standing: Standing<'a>,
+    ) -> Result<(), RuleFault>
         ensures { Answers (of_name (place self.now) name.now (called_of call.entry) (standing_of standing.entry)) result }
     {
-        Err(RuleFault::Memory)
+        name_told(&self.roots, &self.scopes, name, call, standing)
     }
 
     fn tag(&self, tag: &'a Tag, children: bool) -> Result<(), RuleFault>
         ensures { Answers (of_tag (place self.now) tag.now children) result }
     {
-        Err(RuleFault::Memory)
+        tag_told(&self.roots, &self.scopes, tag, children)
     }
 
     #[cycle(walk)]
@@ -81,7 +123,12 @@ impl<'a> Walk<'a> {
 
     /// What stands before links.
     #[cycle(walk)]
-    fn head(&mut self, head: &'a Expr, call: Called<'a>, standing: Standing<'a>) -> Result<(), RuleFault>
+    fn head(
+        &mut self,
+        head: &'a Expr,
+        call: Called<'a>,
+        standing: Standing<'a>,
+    ) -> Result<(), RuleFault>
         ensures answers { Answers (of_head (place self.old) head.now (called_of call.entry) (standing_of standing.entry)) result }
         ensures kept { OnOk result (self.new ≡ self.old) }
     {
@@ -111,8 +158,12 @@ impl<'a> Walk<'a> {
         let Some((first, later)) = xs.split_first() else {
             return Ok(());
         };
+        let behind = argument_of(callee, false);
         self.expression(first, argument_of(callee, true))?;
-        self.expressions(later, argument_of(callee, false))
+        for x in later {
+            self.expression(x, behind)?;
+        }
+        Ok(())
     }
 
     #[cycle(walk)]
@@ -147,16 +198,7 @@ impl<'a> Walk<'a> {
             return Ok(());
         };
         self.link(callee, first)?;
-        self.later_links(later)
-    }
-
-    /// The links behind the first.
-    #[cycle(walk)]
-    fn later_links(&mut self, links: &'a [Link]) -> Result<(), RuleFault>
-        ensures answers { Answers (flat_map (of_link (place self.old) None) links.now) result }
-        ensures kept { OnOk result (self.new ≡ self.old) }
-    {
-        for link in links {
+        for link in later {
             self.link(None, link)?;
         }
         Ok(())
@@ -179,9 +221,10 @@ impl<'a> Walk<'a> {
         ensures answers { Answers (of_markup (place self.old) jsx.now) result }
         ensures kept { OnOk result (self.new ≡ self.old) }
     {
-        self.tag(&jsx.tag, !jsx.children.is_empty())?;
+        let children = jsx.children.as_slice();
+        self.tag(&jsx.tag, has_children(children))?;
         self.attributes(&jsx.tag, jsx.attrs.as_slice())?;
-        self.expressions(jsx.children.as_slice(), Standing::Anywhere)
+        self.expressions(children, Standing::Anywhere)
     }
 
     #[cycle(walk)]
@@ -189,10 +232,13 @@ impl<'a> Walk<'a> {
         ensures answers { Answers (of_attributes (place self.old) tag.now [] attributes.now) result }
         ensures kept { OnOk result (self.new ≡ self.old) }
     {
+        let mut earlier = Earlier::new(self.alloc);
         for attribute in attributes {
+            let longer = with_attribute(earlier, self.alloc, tag, attribute)?;
+            earlier = longer;
             self.expression(&attribute.value, Standing::Anywhere)?;
         }
-        Err(RuleFault::Memory)
+        Ok(())
     }
 
     /// An arrow, with its parameters and the names of its block around its body.
@@ -201,7 +247,8 @@ impl<'a> Walk<'a> {
         ensures answers { Answers (of_arrow (place self.old) (standing_of standing.entry) arrow.now.params arrow.now.body) result }
         ensures kept { OnOk result (self.new ≡ self.old) }
     {
-        self.scopes.enter_arrow(mark_there(standing), arrow.params.as_slice(), &arrow.body)?;
+        self.scopes
+            .enter_arrow(mark_there(standing), arrow.params.as_slice(), &arrow.body)?;
         self.body(&arrow.body, is_component_arrow(standing))?;
         self.scopes.leave();
         Ok(())
@@ -227,7 +274,8 @@ impl<'a> Walk<'a> {
         let mut hooks = first;
         for statement in statements {
             self.statement(statement, hooks)?;
-            hooks = hooks && lets_hooks_follow(statement);
+            let next = hooks_behind(hooks, statement);
+            hooks = next;
         }
         Ok(())
     }
@@ -248,10 +296,14 @@ impl<'a> Walk<'a> {
                 self.block(then.as_slice())?;
                 self.block(otherwise.as_slice())
             }
-            Stmt::While(test, inside) => self.repeated(test, inside.as_slice()),
+            Stmt::While(test, inside) => {
+                self.expression(test, Standing::Anywhere)?;
+                self.block(inside.as_slice())
+            }
             Stmt::ForOf(name, x, inside) => {
                 self.scopes.enter_for(name, false)?;
-                self.repeated(x, inside.as_slice())?;
+                self.expression(x, Standing::Anywhere)?;
+                self.block(inside.as_slice())?;
                 self.scopes.leave();
                 Ok(())
             }
@@ -271,16 +323,6 @@ impl<'a> Walk<'a> {
             Some(x) => self.expression(x, Standing::Anywhere),
             None => Ok(()),
         }
-    }
-
-    /// An expression and the block that is repeated by it.
-    #[cycle(walk)]
-    fn repeated(&mut self, x: &'a Expr, inside: &'a [Stmt]) -> Result<(), RuleFault>
-        ensures answers { Answers (of_repeated (place self.old) x.now inside.now) result }
-        ensures kept { OnOk result (self.new ≡ self.old) }
-    {
-        self.expression(x, Standing::Anywhere)?;
-        self.block(inside)
     }
 
     /// A block, with its names around it.

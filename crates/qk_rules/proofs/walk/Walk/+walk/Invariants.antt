@@ -1,5 +1,4 @@
-use Rattle.std.specs.Prelude.{◌≡◌, None, drop, flat_map}
-use Rattle.qk_ast.specs.Spots.{Anywhere}
+use Rattle.std.specs.Prelude.{◌≡◌, [], None, drop, flat_map}
 use Rattle.qk_rules.specs.Standings.{standing_of}
 use Rattle.qk_rules.specs.Parts.{of_expression, of_field, of_operand, of_link, of_statements, of_attributes}
 use Rattle.qk_rules.specs.Walking.{place}
@@ -8,6 +7,12 @@ use Rattle.qk_rules.proofs.walk.Walk.+walk.Given as goal
 abbrev pub invariant-expressions-loop-x : goal.invariant-expressions-loop-x
 invariant-expressions-loop-x l = record {
   past : flat_map (of_expression (place l.fn.self) (standing_of l.standing)) (drop l.x-index l.xs) ≡ flat_map (of_expression (place l.fn.self) (standing_of l.standing)) l.xs;
+  kept : l.self ≡ l.fn.self;
+}
+
+abbrev pub invariant-arguments-loop-x : goal.invariant-arguments-loop-x
+invariant-arguments-loop-x l = record {
+  past : flat_map (of_expression (place l.fn.self) (standing_of l.behind)) (drop l.x-index l.later) ≡ flat_map (of_expression (place l.fn.self) (standing_of l.behind)) l.later;
   kept : l.self ≡ l.fn.self;
 }
 
@@ -23,9 +28,15 @@ invariant-operands-loop-operand l = record {
   kept : l.self ≡ l.fn.self;
 }
 
-abbrev pub invariant-later_links-loop-link : goal.invariant-later_links-loop-link
-invariant-later_links-loop-link l = record {
-  past : flat_map (of_link (place l.fn.self) None) (drop l.link-index l.links) ≡ flat_map (of_link (place l.fn.self) None) l.links;
+abbrev pub invariant-links-loop-link : goal.invariant-links-loop-link
+invariant-links-loop-link l = record {
+  past : flat_map (of_link (place l.fn.self) None) (drop l.link-index l.later) ≡ flat_map (of_link (place l.fn.self) None) l.later;
+  kept : l.self ≡ l.fn.self;
+}
+
+abbrev pub invariant-attributes-loop-attribute : goal.invariant-attributes-loop-attribute
+invariant-attributes-loop-attribute l = record {
+  past : of_attributes (place l.fn.self) l.tag l.earlier (drop l.attribute-index l.attributes) ≡ of_attributes (place l.fn.self) l.tag [] l.attributes;
   kept : l.self ≡ l.fn.self;
 }
 
