@@ -2,6 +2,7 @@
 #![tactic(auto)]
 
 mod calls;
+mod checking;
 mod earlier;
 mod fault;
 mod hooks;
@@ -16,6 +17,7 @@ mod telling;
 mod uses;
 mod walk;
 
+pub use checking::check;
 pub use fault::RuleFault;
 pub use kinds::Kinds;
 
