@@ -1,5 +1,5 @@
 -- What is told of a module, from what is told of its items and of its sites.
-use Rattle.std.specs.Prelude.{◌≡◌, refl, Bool, true, false, not, nat_le, length, List, [], ◌∷◌, ◌++◌, flat_map, Some, Result, Ok, Err, codes}
+use Rattle.std.specs.Prelude.{◌≡◌, refl, Bool, true, false, not, nat_le, length, List, [], ◌∷◌, ◌++◌, flat_map, Result, Ok, Err, codes}
 use Rattle.std.proofs.Common.{ap, sym, subst, ◌∙◌}
 use Rattle.qk_ast.specs.declared.Module.{Module}
 use Rattle.qk_ast.specs.declared.Item.{Item}
@@ -12,9 +12,8 @@ use Rattle.qk_rules.specs.declared.fault.RuleFault.{RuleFault}
 use Rattle.qk_rules.specs.declared.fault.RuleFault.TheVariants.{Refused, Memory}
 use Rattle.qk_rules.specs.Checking as checking
 use Rattle.qk_rules.specs.Checking.{Refuses, Answers, Checks}
-use Rattle.qk_rules.specs.Breaches.{breach}
 use Rattle.qk_rules.specs.Parts.{Place, of_item}
-use Rattle.qk_rules.proofs.Answering.{by_form, clear, told_refused, stops, goes_on}
+use Rattle.qk_rules.proofs.Answering.{by_form, clear, refused_told, stops, goes_on}
 use Rattle.qk_rules.proofs.Forms.{items_row}
 
 -- ---- the sites
@@ -24,8 +23,7 @@ sites_kept b few = clear (ap (λ c. refuse_if c TooManySites (codes "-")) few)
 
 pub sites_refused : (b : Bool) (name : Text) → b ≡ true → name ≡ codes "-" → Answers (refuse_if b TooManySites (codes "-")) (Err (Refused TooManySites name))
 sites_refused b name many is =
-    subst (λ (c : Bool). Answers (refuse_if c TooManySites (codes "-")) (Err (Refused TooManySites name))) (sym many)
-    (told_refused (refuse_if true TooManySites (codes "-")) name TooManySites (ap (λ n. Some (breach n TooManySites)) is))
+    subst (λ (c : Bool). Answers (refuse_if c TooManySites (codes "-")) (Err (Refused TooManySites name))) (sym many) (refused_told (codes "-") name TooManySites is)
 
 -- the sites of a module's items
 pub sites_at : (m : Module) (items : List Item) (result : Result Unit RuleFault) → items ≡ m.items
