@@ -23,8 +23,7 @@ sites_kept b few = clear (ap (λ c. refuse_if c TooManySites (codes "-")) few)
 
 pub sites_refused : (b : Bool) (name : Text) → b ≡ true → name ≡ codes "-" → Answers (refuse_if b TooManySites (codes "-")) (Err (Refused TooManySites name))
 sites_refused b name many is =
-    subst (λ (c : Bool). Answers (refuse_if c TooManySites (codes "-")) (Err (Refused TooManySites name))) (sym many)
-    (refused_told (codes "-") name TooManySites is)
+    subst (λ (c : Bool). Answers (refuse_if c TooManySites (codes "-")) (Err (Refused TooManySites name))) (sym many) (refused_told (codes "-") name TooManySites is)
 
 -- the sites of a module's items
 pub sites_at : (m : Module) (items : List Item) (result : Result Unit RuleFault) → items ≡ m.items

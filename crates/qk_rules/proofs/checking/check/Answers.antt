@@ -13,7 +13,7 @@ returns-in_err-items c =
     let file = c.args.name.now in
     let roots = root_kind c.args.kinds.now c.args.m.now in
     let walk = place c.new-walk.result in
-    items_refused file roots c.args.m.now walk c.as_slice.result.now c.from_residual-in_err-items.result c.in_err-items.field-0
+    items_refused file roots c.args.m.now walk c.as_slice.result.now c.from_residual-in_err-items.result c.in_err-items.field-0.0
     (begun walk c.as_str.result.now file (kind_by c.in_ok-roots.roots) roots c.new-walk.ensures c.as_str.ensures c.in_ok-roots.ensures) c.as_slice.ensures c.in_err-items.ensures.answers (search rules)
 
 pub returns : goal.returns

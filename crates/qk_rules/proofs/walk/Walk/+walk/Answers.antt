@@ -76,10 +76,10 @@ pub expression-returns-in_ok-expression-in-Assign-clause-answers : goal.expressi
 expression-returns-in_ok-expression-in-Assign-clause-answers t c = goes_on (ap (of_expression (place c.args.self.now) (standing_of c.args.standing)) c.in-Assign.is ∙ of_assign (place c.args.self.now) (standing_of c.args.standing) c.in-Assign.field-0 c.in-Assign.target c.in-Assign.value ∙ ap (λ x. of_expression (place c.args.self.now) Anywhere x ++ of_expression (place c.args.self.now) Anywhere c.in-Assign.value) (sym c.get-in-Assign.ensures) ∙ ap (λ x. of_expression (place c.args.self.now) Anywhere c.get-in-Assign.result.now ++ of_expression (place c.args.self.now) Anywhere x) (sym c.get-in-Assign-2.ensures)) c.in_ok-expression-in-Assign.ensures.answers (as_before (λ w. of_expression (place w) Anywhere c.get-in-Assign-2.result.now) c.in_ok-expression-in-Assign.ensures.kept c.expression-in-Assign-2.ensures.answers)
 
 pub expression-returns-in_err-head-in-Post-clause-answers : goal.expression-returns-in_err-head-in-Post-clause-answers
-expression-returns-in_err-head-in-Post-clause-answers t c = stops (of_links (place c.args.self.now) (name_in c.in-Post.head) c.in-Post.links) (ap (of_expression (place c.args.self.now) (standing_of c.args.standing)) c.in-Post.is ∙ of_post (place c.args.self.now) (standing_of c.args.standing) c.in-Post.head c.in-Post.links ∙ ap (λ x. of_head (place c.args.self.now) x (called_by c.in-Post.links) (standing_of c.args.standing) ++ of_links (place c.args.self.now) (name_in c.in-Post.head) c.in-Post.links) (sym c.get-in-Post.ensures) ∙ ap (λ call. of_head (place c.args.self.now) c.get-in-Post.result.now call (standing_of c.args.standing) ++ of_links (place c.args.self.now) (name_in c.in-Post.head) c.in-Post.links) (sym (c.call_by.ensures ∙ ap called_by c.as_slice-in-Post.ensures))) c.in_err-head.ensures.answers (search rules)
+expression-returns-in_err-head-in-Post-clause-answers t c = stops (of_links (place c.args.self.now) (name_in c.in-Post.head) c.in-Post.links) (ap (of_expression (place c.args.self.now) (standing_of c.args.standing)) c.in-Post.is ∙ of_post (place c.args.self.now) (standing_of c.args.standing) c.in-Post.head c.in-Post.links ∙ ap (λ x. of_head (place c.args.self.now) x (called_by c.in-Post.links) (standing_of c.args.standing) ++ of_links (place c.args.self.now) (name_in c.in-Post.head) c.in-Post.links) (sym c.get-in-Post.ensures) ∙ ap (λ call. of_head (place c.args.self.now) c.get-in-Post.result.now call (standing_of c.args.standing) ++ of_links (place c.args.self.now) (name_in c.in-Post.head) c.in-Post.links) (sym (c.call_by.ensures ∙ ap called_by c.as_slice-in-Post.ensures))) c.in_err-head-in-Post.ensures.answers (search rules)
 
 pub expression-returns-in_ok-head-in-Post-clause-answers : goal.expression-returns-in_ok-head-in-Post-clause-answers
-expression-returns-in_ok-head-in-Post-clause-answers t c = goes_on (ap (of_expression (place c.args.self.now) (standing_of c.args.standing)) c.in-Post.is ∙ of_post (place c.args.self.now) (standing_of c.args.standing) c.in-Post.head c.in-Post.links ∙ ap (λ x. of_head (place c.args.self.now) x (called_by c.in-Post.links) (standing_of c.args.standing) ++ of_links (place c.args.self.now) (name_in c.in-Post.head) c.in-Post.links) (sym c.get-in-Post.ensures) ∙ ap (λ call. of_head (place c.args.self.now) c.get-in-Post.result.now call (standing_of c.args.standing) ++ of_links (place c.args.self.now) (name_in c.in-Post.head) c.in-Post.links) (sym (c.call_by.ensures ∙ ap called_by c.as_slice-in-Post.ensures)) ∙ ap (λ n. of_head (place c.args.self.now) c.get-in-Post.result.now (called_of c.call_by.result) (standing_of c.args.standing) ++ of_links (place c.args.self.now) n c.in-Post.links) (sym (c.name_in.ensures ∙ ap name_in c.get-in-Post-2.ensures)) ∙ ap (λ ls. of_head (place c.args.self.now) c.get-in-Post.result.now (called_of c.call_by.result) (standing_of c.args.standing) ++ of_links (place c.args.self.now) (option_copied c.name_in.result) ls) (sym c.as_slice-in-Post-2.ensures)) c.in_ok-head.ensures.answers (as_before (λ w. of_links (place w) (option_copied c.name_in.result) c.as_slice-in-Post-2.result.now) c.in_ok-head.ensures.kept c.links.ensures.answers)
+expression-returns-in_ok-head-in-Post-clause-answers t c = goes_on (ap (of_expression (place c.args.self.now) (standing_of c.args.standing)) c.in-Post.is ∙ of_post (place c.args.self.now) (standing_of c.args.standing) c.in-Post.head c.in-Post.links ∙ ap (λ x. of_head (place c.args.self.now) x (called_by c.in-Post.links) (standing_of c.args.standing) ++ of_links (place c.args.self.now) (name_in c.in-Post.head) c.in-Post.links) (sym c.get-in-Post.ensures) ∙ ap (λ call. of_head (place c.args.self.now) c.get-in-Post.result.now call (standing_of c.args.standing) ++ of_links (place c.args.self.now) (name_in c.in-Post.head) c.in-Post.links) (sym (c.call_by.ensures ∙ ap called_by c.as_slice-in-Post.ensures)) ∙ ap (λ n. of_head (place c.args.self.now) c.get-in-Post.result.now (called_of c.call_by.result) (standing_of c.args.standing) ++ of_links (place c.args.self.now) n c.in-Post.links) (sym (c.name_in.ensures ∙ ap name_in c.get-in-Post-2.ensures)) ∙ ap (λ ls. of_head (place c.args.self.now) c.get-in-Post.result.now (called_of c.call_by.result) (standing_of c.args.standing) ++ of_links (place c.args.self.now) (option_copied c.name_in.result) ls) (sym c.as_slice-in-Post-2.ensures)) c.in_ok-head-in-Post.ensures.answers (as_before (λ w. of_links (place w) (option_copied c.name_in.result) c.as_slice-in-Post-2.result.now) c.in_ok-head-in-Post.ensures.kept c.links.ensures.answers)
 
 pub body-returns-in-Value-clause-answers : goal.body-returns-in-Value-clause-answers
 body-returns-in-Value-clause-answers t c = by_form (ap (of_body (place c.args.self.now) c.args.component) c.in-Value.is ∙ of_value (place c.args.self.now) c.args.component c.in-Value.x ∙ ap (of_expression (place c.args.self.now) Anywhere) (sym c.get.ensures)) c.expression.ensures.answers
@@ -139,10 +139,10 @@ pub statement-returns-in_err-expression-in-If-clause-answers : goal.statement-re
 statement-returns-in_err-expression-in-If-clause-answers t c = stops (of_block (place c.args.self.now) c.in-If.then ++ of_block (place c.args.self.now) c.in-If.otherwise) (ap (of_statement (place c.args.self.now) c.args.hooks) c.in-If.is ∙ of_if (place c.args.self.now) c.args.hooks c.in-If.test c.in-If.then c.in-If.otherwise) c.in_err-expression-in-If.ensures.answers (search rules)
 
 pub statement-returns-in_err-block-in-If-clause-answers : goal.statement-returns-in_err-block-in-If-clause-answers
-statement-returns-in_err-block-in-If-clause-answers t c = goes_on (ap (of_statement (place c.args.self.now) c.args.hooks) c.in-If.is ∙ of_if (place c.args.self.now) c.args.hooks c.in-If.test c.in-If.then c.in-If.otherwise) c.in_ok-expression-in-If.ensures.answers (stops (of_block (place c.args.self.now) c.in-If.otherwise) (ap (λ ss. of_block (place c.args.self.now) ss ++ of_block (place c.args.self.now) c.in-If.otherwise) (sym c.as_slice.ensures)) (as_before (λ w. of_block (place w) c.as_slice.result.now) c.in_ok-expression-in-If.ensures.kept c.in_err-block.ensures.answers) (search rules))
+statement-returns-in_err-block-in-If-clause-answers t c = goes_on (ap (of_statement (place c.args.self.now) c.args.hooks) c.in-If.is ∙ of_if (place c.args.self.now) c.args.hooks c.in-If.test c.in-If.then c.in-If.otherwise) c.in_ok-expression-in-If.ensures.answers (stops (of_block (place c.args.self.now) c.in-If.otherwise) (ap (λ ss. of_block (place c.args.self.now) ss ++ of_block (place c.args.self.now) c.in-If.otherwise) (sym c.as_slice.ensures)) (as_before (λ w. of_block (place w) c.as_slice.result.now) c.in_ok-expression-in-If.ensures.kept c.in_err-block-in-If.ensures.answers) (search rules))
 
 pub statement-returns-in_ok-block-in-If-clause-answers : goal.statement-returns-in_ok-block-in-If-clause-answers
-statement-returns-in_ok-block-in-If-clause-answers t c = goes_on (ap (of_statement (place c.args.self.now) c.args.hooks) c.in-If.is ∙ of_if (place c.args.self.now) c.args.hooks c.in-If.test c.in-If.then c.in-If.otherwise) c.in_ok-expression-in-If.ensures.answers (goes_on (ap (λ ss. of_block (place c.args.self.now) ss ++ of_block (place c.args.self.now) c.in-If.otherwise) (sym c.as_slice.ensures) ∙ ap (λ ss. of_block (place c.args.self.now) c.as_slice.result.now ++ of_block (place c.args.self.now) ss) (sym c.as_slice-in-If.ensures)) (as_before (λ w. of_block (place w) c.as_slice.result.now) c.in_ok-expression-in-If.ensures.kept c.in_ok-block.ensures.answers) (as_before (λ w. of_block (place w) c.as_slice-in-If.result.now) (c.in_ok-block.ensures.kept ∙ c.in_ok-expression-in-If.ensures.kept) c.block-in-If.ensures.answers))
+statement-returns-in_ok-block-in-If-clause-answers t c = goes_on (ap (of_statement (place c.args.self.now) c.args.hooks) c.in-If.is ∙ of_if (place c.args.self.now) c.args.hooks c.in-If.test c.in-If.then c.in-If.otherwise) c.in_ok-expression-in-If.ensures.answers (goes_on (ap (λ ss. of_block (place c.args.self.now) ss ++ of_block (place c.args.self.now) c.in-If.otherwise) (sym c.as_slice.ensures) ∙ ap (λ ss. of_block (place c.args.self.now) c.as_slice.result.now ++ of_block (place c.args.self.now) ss) (sym c.as_slice-in-If.ensures)) (as_before (λ w. of_block (place w) c.as_slice.result.now) c.in_ok-expression-in-If.ensures.kept c.in_ok-block-in-If.ensures.answers) (as_before (λ w. of_block (place w) c.as_slice-in-If.result.now) (c.in_ok-block-in-If.ensures.kept ∙ c.in_ok-expression-in-If.ensures.kept) c.block-in-If.ensures.answers))
 
 pub statement-returns-in_err-expression-in-While-clause-answers : goal.statement-returns-in_err-expression-in-While-clause-answers
 statement-returns-in_err-expression-in-While-clause-answers t c = stops (of_block (place c.args.self.now) c.in-While.inside) (ap (of_statement (place c.args.self.now) c.args.hooks) c.in-While.is ∙ of_while (place c.args.self.now) c.args.hooks c.in-While.test c.in-While.inside) c.in_err-expression-in-While.ensures.answers (search rules)
@@ -157,13 +157,13 @@ pub statement-returns-in_err-enter_for-in-ForOf-clause-answers : goal.statement-
 statement-returns-in_err-enter_for-in-ForOf-clause-answers t c = wants (search rules)
 
 pub statement-returns-in_err-expression-in-ForOf-clause-answers : goal.statement-returns-in_err-expression-in-ForOf-clause-answers
-statement-returns-in_err-expression-in-ForOf-clause-answers t c = stops (of_block (place (among c.args.self.now c.enter_for.new.self)) c.in-ForOf.inside) (ap (of_statement (place c.args.self.now) c.args.hooks) c.in-ForOf.is ∙ of_for (place c.args.self.now) c.args.hooks c.in-ForOf.name c.in-ForOf.x c.in-ForOf.inside ∙ for_entered c.args.self.now c.enter_for.new.self c.in-ForOf.name c.in-ForOf.x c.in-ForOf.inside c.in_ok-enter_for.ensures) c.in_err-expression-in-ForOf.ensures.answers (search rules)
+statement-returns-in_err-expression-in-ForOf-clause-answers t c = stops (of_block (place (among c.args.self.now c.enter_for.new.self)) c.in-ForOf.inside) (ap (of_statement (place c.args.self.now) c.args.hooks) c.in-ForOf.is ∙ of_for (place c.args.self.now) c.args.hooks c.in-ForOf.name c.in-ForOf.x c.in-ForOf.inside ∙ for_entered c.args.self.now c.enter_for.new.self c.in-ForOf.name c.in-ForOf.x c.in-ForOf.inside c.in_ok-enter_for-in-ForOf.ensures) c.in_err-expression-in-ForOf.ensures.answers (search rules)
 
 pub statement-returns-in_err-block-in-ForOf-clause-answers : goal.statement-returns-in_err-block-in-ForOf-clause-answers
-statement-returns-in_err-block-in-ForOf-clause-answers t c = goes_on (ap (of_statement (place c.args.self.now) c.args.hooks) c.in-ForOf.is ∙ of_for (place c.args.self.now) c.args.hooks c.in-ForOf.name c.in-ForOf.x c.in-ForOf.inside ∙ for_entered c.args.self.now c.enter_for.new.self c.in-ForOf.name c.in-ForOf.x c.in-ForOf.inside c.in_ok-enter_for.ensures ∙ ap (λ ss. of_expression (place (among c.args.self.now c.enter_for.new.self)) Anywhere c.in-ForOf.x ++ of_block (place (among c.args.self.now c.enter_for.new.self)) ss) (sym c.as_slice-in-ForOf.ensures)) c.in_ok-expression-in-ForOf.ensures.answers (by_result (search rules) (as_before (λ w. of_block (place w) c.as_slice-in-ForOf.result.now) c.in_ok-expression-in-ForOf.ensures.kept c.in_err-block-in-ForOf.ensures.answers))
+statement-returns-in_err-block-in-ForOf-clause-answers t c = goes_on (ap (of_statement (place c.args.self.now) c.args.hooks) c.in-ForOf.is ∙ of_for (place c.args.self.now) c.args.hooks c.in-ForOf.name c.in-ForOf.x c.in-ForOf.inside ∙ for_entered c.args.self.now c.enter_for.new.self c.in-ForOf.name c.in-ForOf.x c.in-ForOf.inside c.in_ok-enter_for-in-ForOf.ensures ∙ ap (λ ss. of_expression (place (among c.args.self.now c.enter_for.new.self)) Anywhere c.in-ForOf.x ++ of_block (place (among c.args.self.now c.enter_for.new.self)) ss) (sym c.as_slice-in-ForOf.ensures)) c.in_ok-expression-in-ForOf.ensures.answers (by_result (search rules) (as_before (λ w. of_block (place w) c.as_slice-in-ForOf.result.now) c.in_ok-expression-in-ForOf.ensures.kept c.in_err-block-in-ForOf.ensures.answers))
 
 pub statement-returns-in_ok-block-in-ForOf-clause-answers : goal.statement-returns-in_ok-block-in-ForOf-clause-answers
-statement-returns-in_ok-block-in-ForOf-clause-answers t c = goes_on (ap (of_statement (place c.args.self.now) c.args.hooks) c.in-ForOf.is ∙ of_for (place c.args.self.now) c.args.hooks c.in-ForOf.name c.in-ForOf.x c.in-ForOf.inside ∙ for_entered c.args.self.now c.enter_for.new.self c.in-ForOf.name c.in-ForOf.x c.in-ForOf.inside c.in_ok-enter_for.ensures ∙ ap (λ ss. of_expression (place (among c.args.self.now c.enter_for.new.self)) Anywhere c.in-ForOf.x ++ of_block (place (among c.args.self.now c.enter_for.new.self)) ss) (sym c.as_slice-in-ForOf.ensures)) c.in_ok-expression-in-ForOf.ensures.answers (as_before (λ w. of_block (place w) c.as_slice-in-ForOf.result.now) c.in_ok-expression-in-ForOf.ensures.kept c.in_ok-block-in-ForOf.ensures.answers)
+statement-returns-in_ok-block-in-ForOf-clause-answers t c = goes_on (ap (of_statement (place c.args.self.now) c.args.hooks) c.in-ForOf.is ∙ of_for (place c.args.self.now) c.args.hooks c.in-ForOf.name c.in-ForOf.x c.in-ForOf.inside ∙ for_entered c.args.self.now c.enter_for.new.self c.in-ForOf.name c.in-ForOf.x c.in-ForOf.inside c.in_ok-enter_for-in-ForOf.ensures ∙ ap (λ ss. of_expression (place (among c.args.self.now c.enter_for.new.self)) Anywhere c.in-ForOf.x ++ of_block (place (among c.args.self.now c.enter_for.new.self)) ss) (sym c.as_slice-in-ForOf.ensures)) c.in_ok-expression-in-ForOf.ensures.answers (as_before (λ w. of_block (place w) c.as_slice-in-ForOf.result.now) c.in_ok-expression-in-ForOf.ensures.kept c.in_ok-block-in-ForOf.ensures.answers)
 
 pub expressions-returns-in_err-expression-clause-answers : goal.expressions-returns-in_err-expression-clause-answers
 expressions-returns-in_err-expression-clause-answers t c = stops_at (flat_map (of_expression (place c.args.self.now) (standing_of c.args.standing))) (flat_map (of_expression (place c.args.self.now) (standing_of c.args.standing))) (of_expression (place c.args.self.now) (standing_of c.args.standing) c.x-item.result) (flat_map (of_expression (place c.args.self.now) (standing_of c.args.standing)) c.args.xs.now) c.args.xs.now c.loop-x.x-index c.x-item.result (λ rest. refl) c.loop-x-test.true c.x-item.is c.loop-x.invariant.past c.from_residual.result c.in_err-expression.field-0.0 (as_before (λ w. of_expression (place w) (standing_of c.args.standing) c.x-item.result) c.loop-x.invariant.kept c.in_err-expression.ensures.answers) (search rules)
