@@ -1,5 +1,5 @@
 -- What is told of parts, one after another.
-use Rattle.std.specs.Prelude.{◌≡◌, refl, ℕ, ◌+◌, ◌<◌, ◌≤◌, List, [], ◌∷◌, ◌++◌, length, drop, flat_map, Option, Some, None, Result, Ok, Err}
+use Rattle.std.specs.Prelude.{◌≡◌, refl, ℕ, ◌+◌, ◌<◌, ◌≤◌, List, [], ◌∷◌, ◌++◌, length, drop, Some, None, Result, Ok, Err}
 use Rattle.std.specs.Option.{option_map}
 use Rattle.std.proofs.Common.{sym, ◌∙◌, ap, subst}
 use Rattle.std.proofs.Math.ListN.{get_or}
@@ -9,7 +9,7 @@ use Rattle.qk_ast.specs.Texts.{Text}
 use Rattle.qk_ast.specs.Placing.{Placing_breach}
 use Rattle.qk_rules.specs.declared.fault.RuleFault.{RuleFault}
 use Rattle.qk_rules.specs.declared.fault.RuleFault.TheVariants.{Refused, Memory}
-use Rattle.qk_rules.specs.Checking.{Refuses, first, want, Comes, Answers}
+use Rattle.qk_rules.specs.Checking.{Refuses, first, want, Answers}
 use Rattle.qk_rules.specs.Breaches.{breach, first_breach}
 
 -- ---- one part

@@ -1,5 +1,5 @@
 -- Tests, and when texts are the same.
-use Rattle.std.specs.Prelude.{◌≡◌, refl, ℕ, Bool, true, false, ◌&&◌, ◌||◌, List, [], ◌∷◌, bytes_eq}
+use Rattle.std.specs.Prelude.{◌≡◌, refl, ℕ, Bool, true, false, ◌&&◌, List, [], ◌∷◌, bytes_eq}
 use Rattle.std.proofs.Common.{ap, sym, subst, ◌∙◌}
 use lib.Dec.{eqb→eq, eqb, T}
 use Rattle.std.proofs.lemmas.Bool.{false≢true, eq-eqb}

@@ -24,8 +24,8 @@ use Rattle.qk_ast.specs.declared.Field.{Field}
 use Rattle.qk_ast.specs.declared.Operand.{Operand}
 use Rattle.qk_ast.specs.Texts.{Text}
 use Rattle.qk_ast.specs.Names.{around, declared_in}
-use Rattle.qk_ast.specs.Arrows.{Mark, Unmarked, Marked, Tasked, Found_arrow, is_dollar, of_kind, arrows, all_arrows, field_arrows, attribute_arrows, operand_arrows, link_arrows, jsx_arrows, statement_arrows, block_arrows, item_arrows, attribute_mark, call_mark}
-use Rattle.qk_rules.specs.Site_counts.{total, one_if_dollar, dollars, sites_of, field_sites, attribute_sites, operand_sites, link_sites, links_sites, jsx_sites, body_sites, arrow_sites, statement_sites, returned_sites, item_sites}
+use Rattle.qk_ast.specs.Arrows.{Mark, Unmarked, Marked, Tasked, Found_arrow, is_dollar, of_kind, arrows, all_arrows, field_arrows, attribute_arrows, operand_arrows, link_arrows, statement_arrows, block_arrows, item_arrows, attribute_mark, call_mark}
+use Rattle.qk_rules.specs.Site_counts.{total, dollars, sites_of, field_sites, attribute_sites, operand_sites, link_sites, links_sites, jsx_sites, body_sites, arrow_sites, statement_sites, returned_sites, item_sites}
 
 -- ---- what is left
 

@@ -1,5 +1,5 @@
 -- Where the walk stands once it has entered a scope.
-use Rattle.std.specs.Prelude.{◌≡◌, refl, Bool, true, false, List, [], ◌∷◌, ◌++◌}
+use Rattle.std.specs.Prelude.{◌≡◌, refl, Bool, false, List, [], ◌∷◌, ◌++◌}
 use Rattle.std.proofs.Common.{sym, ◌∙◌, ap}
 use Rattle.std.proofs.lemmas.List.{append-nil}
 use Rattle.qk_ast.specs.declared.Expr.{Expr}
@@ -12,7 +12,6 @@ use Rattle.qk_ast.specs.Texts.{Text}
 use Rattle.qk_ast.specs.Arrows.{Mark}
 use Rattle.qk_ast.specs.Scopes.{Scope, arrow_scope, for_scope}
 use Rattle.qk_ast.specs.Spots.{Standing, Anywhere, Called, standing_mark, is_component_arrow}
-use Rattle.qk_ast.specs.Placing.{Placing_breach}
 use Rattle.qk_locals.specs.Layers.{block_of, for_of}
 use Rattle.qk_rules.specs.declared.walk.Walk.{Walk}
 use Rattle.qk_rules.specs.Root_table.{kind_by}

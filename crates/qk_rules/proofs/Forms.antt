@@ -22,9 +22,9 @@ use Rattle.qk_ast.specs.declared.Jsx.{Jsx, roll-Jsx, out-Jsx, roll-out-Jsx}
 use Rattle.qk_ast.specs.declared.Field.{Field}
 use Rattle.qk_ast.specs.declared.Operand.{Operand}
 use Rattle.qk_ast.specs.Texts.{Text}
-use Rattle.qk_ast.specs.Scopes.{Scope, declarations, declarations_of, block_scope, for_scope}
+use Rattle.qk_ast.specs.Scopes.{declarations, declarations_of, block_scope, for_scope}
 use Rattle.qk_ast.specs.Mentions.{name_in}
-use Rattle.qk_ast.specs.Spots.{Standing, Anywhere, Root_value, Hook_statement, Called, Spot, Item, Named, Tagged, Attributed, argument_of, called, has_children, where_hooks, const_standing, lets_hooks_follow, spots, all_spots, field_spots, operand_spots, link_spots, jsx_spots, attribute_spots, statement_spots, block_spots, body_spots, item_spots}
+use Rattle.qk_ast.specs.Spots.{Standing, Anywhere, Root_value, Hook_statement, Called, Spot, Item, Named, Tagged, Attributed, argument_of, called, has_children, where_hooks, const_standing, lets_hooks_follow, spots, all_spots, field_spots, operand_spots, link_spots, attribute_spots, statement_spots, block_spots, item_spots}
 use Rattle.qk_ast.specs.Placing.{Root_kind, Placing_breach, placing_breaches}
 use Rattle.qk_locals.specs.Layers.{block_of}
 use Rattle.qk_rules.specs.Standings.{called_by}

@@ -1,6 +1,6 @@
 -- What calls are given, by the form of what they are given.
-use Rattle.std.specs.Prelude.{◌≡◌, refl, ℕ, Bool, true, false, List, [], ◌∷◌}
-use denote.Hole.Carrier.{hidden, roll}
+use Rattle.std.specs.Prelude.{◌≡◌, refl, ℕ, Bool, List, [], ◌∷◌}
+use denote.Hole.Carrier.{hidden}
 use Rattle.qk_ast.specs.declared.Body.TheBlock.{shape-the_row-Arrow-6, hidden-the_row-Arrow-6}
 use Rattle.qk_ast.specs.declared.Body.{Body, Block' as Body_block'}
 use Rattle.qk_ast.specs.declared.Expr.{Expr, more_of-Arrow}

@@ -1,5 +1,5 @@
 -- The tables of modules beside the list of these, and what they say of imported names.
-use Rattle.std.specs.Prelude.{◌≡◌, refl, ℕ, ◌+◌, ◌<◌, Bool, true, false, List, [], ◌∷◌, ◌++◌, map, take, drop, length, Option, Some, None, bytes_eq}
+use Rattle.std.specs.Prelude.{◌≡◌, refl, ℕ, Bool, true, false, List, [], ◌∷◌, ◌++◌, take, length, Option, Some, None, bytes_eq}
 use Rattle.std.specs.Option.{option_map, is_some}
 use Rattle.std.specs.Borrow.{Bor}
 use Rattle.std.proofs.Common.{ap, sym, subst, ◌∙◌, cond}
@@ -18,8 +18,8 @@ use Rattle.qk_ast.specs.Framework.{framework}
 use Rattle.qk_ast.specs.Sources.{Named_module, module_of, source_module}
 use Rattle.qk_ast.specs.Placing.{Root_kind, Else, kind_of_value, item_kind, imported_kind, root_kind_from}
 use Rattle.qk_rules.specs.declared.roots.Roots.{Roots}
-use Rattle.qk_rules.specs.Root_table.{earlier_of, kind_or_else, one_kind, item_kinds, name_kinds, import_kinds, kind_at, kind_by, kind_from}
-use Rattle.qk_rules.specs.Tables.{named_of, first_module, module_kind, table_at, table_kind, HoldsKinds}
+use Rattle.qk_rules.specs.Root_table.{earlier_of, kind_or_else, item_kinds, name_kinds, import_kinds, kind_at, kind_by, kind_from}
+use Rattle.qk_rules.specs.Tables.{named_of, first_module, module_kind, table_at, HoldsKinds}
 use Rattle.qk_rules.proofs.Bits.{text_is}
 use Rattle.qk_rules.proofs.Root_tables.{earlier_both, none_there}
 
@@ -57,9 +57,9 @@ root_says modules (i ∷ imports) items q =
     (name_kinds (imported_kind modules i.from) i.names q) (names_say (imported_kind modules i.from) i.names q) (root_says modules imports items q)
 
 -- the kinds of a root, where the table was made from nothing
-pub root_from_nothing : (modules : List Named_module) (imports : List Import) (items : List Item) (q : Text) (none some all : Option Root_kind)
-    → none ≡ None → some ≡ earlier_of none (import_kinds modules imports q) → all ≡ earlier_of some (item_kinds items q) → kind_or_else all ≡ root_kind_from modules imports items q
-root_from_nothing modules imports items q none some all begun imported whole =
+pub root_from_nothing : (modules : List Named_module) (imports : List Import) (items : List Item) (q : Text) (empty imported_kinds all : Option Root_kind)
+    → empty ≡ None → imported_kinds ≡ earlier_of empty (import_kinds modules imports q) → all ≡ earlier_of imported_kinds (item_kinds items q) → kind_or_else all ≡ root_kind_from modules imports items q
+root_from_nothing modules imports items q empty imported_kinds all begun imported whole =
     ap kind_or_else (whole ∙ ap (λ o. earlier_of o (item_kinds items q)) (imported ∙ ap (λ o. earlier_of o (import_kinds modules imports q)) begun))
     ∙ root_says modules imports items q
 

@@ -1,8 +1,8 @@
 -- The rows of trees as the lists that they hold.
-use Rattle.std.specs.Prelude.{◌≡◌, refl, Bool, true, false, List, [], ◌∷◌, ◌++◌, ◌==◌, ◌&&◌, length, Option}
+use Rattle.std.specs.Prelude.{◌≡◌, refl, Bool, List, [], ◌∷◌, ◌==◌, ◌&&◌, length, Option}
 use Rattle.std.proofs.Common.{sym, ◌∙◌, ap, arith}
-use denote.Hole.Carrier.{hidden, roll}
-use Rattle.qk_ast.specs.declared.Body.TheBlock.{shape-the_row-Expr-0, hidden-the_row-Expr-0, hidden-the_row-Expr-2, hidden-the_row-Stmt-1, hidden-the_row-Field-3, hidden-the_row-Operand-4, hidden-the_row-Link-5}
+use denote.Hole.Carrier.{hidden}
+use Rattle.qk_ast.specs.declared.Body.TheBlock.{shape-the_row-Expr-0, hidden-the_row-Expr-0, hidden-the_row-Expr-2, hidden-the_row-Link-5}
 use Rattle.qk_ast.specs.declared.Expr.{Expr}
 use Rattle.qk_ast.specs.declared.Expr.TheVariants as e
 use Rattle.qk_ast.specs.declared.Link.{Link}

@@ -1,5 +1,5 @@
 -- What is told of a module, from what is told of its items and of its sites.
-use Rattle.std.specs.Prelude.{◌≡◌, refl, Bool, true, false, not, nat_le, length, List, [], ◌∷◌, ◌++◌, flat_map, Result, Ok, Err, codes}
+use Rattle.std.specs.Prelude.{◌≡◌, Bool, true, false, not, nat_le, length, List, [], ◌++◌, flat_map, Result, Ok, Err, codes}
 use Rattle.std.proofs.Common.{ap, sym, subst, ◌∙◌}
 use Rattle.qk_ast.specs.declared.Module.{Module}
 use Rattle.qk_ast.specs.declared.Item.{Item}
@@ -7,7 +7,7 @@ use Rattle.qk_ast.specs.declared.RuleKind.TheVariants.{TooManySites}
 use Rattle.qk_ast.specs.Texts.{Text}
 use Rattle.qk_ast.specs.Arrows.{item_arrows, of_kind}
 use Rattle.qk_ast.specs.Spots.{item_spots}
-use Rattle.qk_ast.specs.Placing.{Placing_breach, Root_kind, refuse_if, most_sites, placing_breaches, site_breaches, all_placing_breaches}
+use Rattle.qk_ast.specs.Placing.{Root_kind, refuse_if, most_sites, placing_breaches, site_breaches, all_placing_breaches}
 use Rattle.qk_rules.specs.declared.fault.RuleFault.{RuleFault}
 use Rattle.qk_rules.specs.declared.fault.RuleFault.TheVariants.{Refused, Memory}
 use Rattle.qk_rules.specs.Checking as checking

@@ -14,7 +14,7 @@ use Rattle.qk_ast.specs.Texts.{Text}
 use Rattle.qk_ast.specs.Scopes.{Scope, arrow_scope}
 use Rattle.qk_locals.specs.Layers.{block_of}
 use Rattle.qk_ast.specs.Mentions.{name_in}
-use Rattle.qk_ast.specs.Spots.{Standing, Anywhere, Root_value, Argument, Called, Spot, Named, Tagged, Attributed, argument_of, standing_mark, is_component_arrow, lets_hooks_follow, spots, all_spots, jsx_spots, statement_spots, body_spots}
+use Rattle.qk_ast.specs.Spots.{Standing, Anywhere, Root_value, Called, Spot, Named, Tagged, Attributed, argument_of, standing_mark, is_component_arrow, lets_hooks_follow, spots, all_spots, jsx_spots, statement_spots, body_spots}
 use Rattle.qk_ast.specs.declared.RuleKind.TheVariants.{TagRefused}
 use Rattle.qk_ast.specs.Tags.{is_element, is_attribute}
 use Rattle.qk_ast.specs.Placing.{Root_kind, Placing_breach, refuse_if, item_breaches, placing_breaches}

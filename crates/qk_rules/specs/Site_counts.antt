@@ -1,5 +1,5 @@
 -- How many dollar sites the parts of a module have, by what the tree holds in lists.
-use Rattle.std.specs.Prelude.{ℕ, ◌+◌, Bool, true, false, List, [], ◌∷◌, ◌++◌, length, Option, Some, None}
+use Rattle.std.specs.Prelude.{ℕ, ◌+◌, true, List, [], ◌∷◌, length, Option, Some, None}
 use Rattle.qk_ast.specs.declared.Arrow.{Arrow}
 use Rattle.qk_ast.specs.declared.Item.{Item}
 use Rattle.qk_ast.specs.declared.Body.{Body}

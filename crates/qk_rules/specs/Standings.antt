@@ -1,6 +1,5 @@
 -- Where an expression stands and what is called, as the program keeps them.
 use Rattle.std.specs.Prelude.{Bool, true, false, List, [], ◌∷◌}
-use Rattle.qk_ast.specs.declared.Expr.{Expr}
 use Rattle.qk_ast.specs.declared.Link.{Link}
 use Rattle.qk_ast.specs.Spots as spots
 use Rattle.qk_rules.specs.declared.standing.Standing.{Standing}

@@ -1,4 +1,4 @@
-use Rattle.std.proofs.Common.{rules, ◌≡◌, []}
+use Rattle.std.proofs.Common.{rules}
 use Rattle.qk_ast.specs.Placing.{root_kind}
 use Rattle.qk_rules.specs.Root_table.{kind_by}
 use Rattle.qk_rules.specs.Walking.{place}

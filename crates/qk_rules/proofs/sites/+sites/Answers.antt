@@ -1,7 +1,7 @@
 use Rattle.std.proofs.Common.{ap, sym, ◌∙◌, ◌+◌, ◌∷◌}
-use Rattle.qk_ast.specs.Arrows.{Unmarked, call_mark, inner_scope}
+use Rattle.qk_ast.specs.Arrows.{Unmarked, call_mark}
 use Rattle.qk_locals.specs.Meanings.{mark_of}
-use Rattle.qk_rules.specs.Site_counts.{total, one_if_dollar, sites_of, field_sites, attribute_sites, operand_sites, link_sites, links_sites, jsx_sites, body_sites, arrow_sites, statement_sites, returned_sites}
+use Rattle.qk_rules.specs.Site_counts.{total, sites_of, field_sites, attribute_sites, operand_sites, link_sites, links_sites, jsx_sites, body_sites, arrow_sites, statement_sites, returned_sites}
 use Rattle.qk_rules.proofs.Dollar_sites.{none_there, one_there, two_there, three_there, in_block, of_undefined, of_null, of_bool, of_int, of_text, of_name, of_list, of_record, of_template, of_unary, of_chain, of_choice, of_post, of_assign, of_step, of_known, of_arrow, of_markup, of_property, of_index, of_call, of_element, of_value, of_body, of_const, of_let, of_do, of_delete, of_return, of_if, of_while, of_for, of_break, of_continue, of_block}
 use Rattle.qk_ast.specs.declared.Jsx.{out-Jsx}
 use Rattle.qk_rules.proofs.sites.+sites.Goals as goal

@@ -1,6 +1,6 @@
-use Rattle.std.proofs.Common.{◌≡◌, true, false, ap, sym, ◌∙◌, ◌++◌, ◌∷◌, []}
+use Rattle.std.proofs.Common.{ap, sym, ◌∙◌, ◌++◌, ◌∷◌, []}
 use Rattle.qk_ast.specs.Names.{is_listed}
-use Rattle.qk_ast.specs.Tags.{is_attribute, is_listener}
+use Rattle.qk_ast.specs.Tags.{is_listener}
 use Rattle.qk_rules.specs.Attributes.{is_alone}
 use Rattle.qk_rules.proofs.Event_sets.{refused_alone, kept_other, listener_tried}
 use Rattle.qk_rules.proofs.earlier.Earlier.with.Goals as goal

@@ -1,7 +1,5 @@
-use Rattle.std.proofs.Common.{◌≡◌, true, false, ap, sym, ◌∙◌}
-use Rattle.std.specs.String.{string_bytes}
+use Rattle.std.proofs.Common.{true, false, ap, sym, ◌∙◌}
 use Rattle.qk_ast.specs.Names.{is_listed}
-use Rattle.qk_ast.specs.Tags.{in_small_letters}
 use Rattle.qk_rules.proofs.Event_sets.{lowered, new_name, listener_more, event_known}
 use Rattle.qk_rules.proofs.earlier.Earlier.with_listener.Goals as goal
 

@@ -1,4 +1,4 @@
-use Rattle.std.proofs.Common.{arith, sym, ap, ◌≡◌, ◌∙◌, ◌++◌, ◌∷◌, [], true, false, length, take}
+use Rattle.std.proofs.Common.{arith, sym, ap, ◌≡◌, ◌∙◌}
 use Rattle.std.specs.Option.{is_some}
 use Rattle.qk_rules.specs.Root_table.{kind_at, earlier_of, item_kinds}
 use Rattle.qk_rules.specs.Tables.{named_of, table_at}

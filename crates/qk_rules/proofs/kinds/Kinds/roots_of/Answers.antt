@@ -1,4 +1,4 @@
-use Rattle.std.proofs.Common.{ap, sym, ◌∙◌}
+use Rattle.std.proofs.Common.{ap, ◌∙◌}
 use Rattle.qk_rules.specs.Root_table.{kind_at, earlier_of, item_kinds, import_kinds}
 use Rattle.qk_rules.proofs.Module_tables.{root_from_nothing}
 use Rattle.qk_rules.proofs.kinds.Kinds.roots_of.Goals as goal

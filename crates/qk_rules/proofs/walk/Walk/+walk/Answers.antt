@@ -1,4 +1,4 @@
-use Rattle.std.proofs.Common.{rules, ◌+◌, [], ◌∷◌, ◌++◌, ◌&&◌, false, drop, flat_map, ap, sym, refl, ◌∙◌, Some, None}
+use Rattle.std.proofs.Common.{rules, ◌+◌, [], ◌∷◌, ◌++◌, ◌&&◌, false, drop, flat_map, ap, sym, refl, ◌∙◌, None}
 use Rattle.std.specs.Option.{option_copied}
 use Rattle.qk_ast.specs.declared.Jsx.{out-Jsx}
 use Rattle.qk_ast.specs.Mentions.{name_in}
