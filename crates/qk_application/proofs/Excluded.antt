@@ -1,12 +1,12 @@
 -- Over the same files one thing is answered.
-use Rattle.std.proofs.Common.{◌≡◌, refl, sym, ap, ◌∙◌, subst, List, [], ◌∷◌, ◌⊎◌, inl, inr}
+use Rattle.std.proofs.Common.{◌≡◌, refl, sym, ap, ◌∙◌, subst, List, [], ◌∷◌, inl, inr}
 use Rattle.std.specs.Prelude.{Result, Ok, Err, Option, Some}
 use Rattle.qk_ast.specs.Application.{Breach, Of_names, Of_places}
 use Rattle.qk_store.specs.Files.{Files}
 use Rattle.qk_store.specs.Answers.{Answer}
 use Rattle.qk_modules.specs.declared.modules.Modules.{Modules}
 use Rattle.qk_modules.specs.declared.fault.GatherFault.{GatherFault}
-use Rattle.qk_modules.specs.declared.fault.GatherFault.TheVariants.{Store, Memory}
+use Rattle.qk_modules.specs.declared.fault.GatherFault.TheVariants.{Memory}
 use Rattle.qk_modules.specs.Gathering.{GathersOver}
 use Rattle.qk_modules.specs.Laws as gathering
 use Rattle.qk_modules.proofs.Excluded.{one_gathering, gathered_or_refused, gathers_over}
@@ -14,7 +14,7 @@ use Rattle.qk_modules.proofs.OneFault.{one_fault}
 use Rattle.qk_application.specs.declared.application.Application.{Application}
 use Rattle.qk_application.specs.declared.fault.ApplicationFault.{ApplicationFault}
 use Rattle.qk_application.specs.declared.fault.ApplicationFault.TheVariants.{Gathering, Naming, Placing}
-use Rattle.qk_application.specs.Accepting.{Judges, kept, misnamed, misplaced, want, breaches_of, application_of, Decides, Accepts, AcceptsOver}
+use Rattle.qk_application.specs.Accepting.{Judges, misnamed, misplaced, want, breaches_of, application_of, Decides, Accepts, AcceptsOver}
 use Rattle.qk_application.specs.Laws.{IsFailure, OneApplication, AcceptedOrRefused, OneRefusal}
 use Rattle.qk_application.proofs.Judged.{none_broken}
 

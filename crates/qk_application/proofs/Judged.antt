@@ -1,9 +1,8 @@
 -- What is answered of a module, and of modules one after another.
-use Rattle.std.proofs.Common.{◌≡◌, ◌≤◌, ◌<◌, ◌+◌, ℕ, suc, refl, sym, ap, ◌∙◌, subst, List, [], ◌∷◌, ◌++◌, map, length, drop, get_or, drop-cons, add-one, append_assoc, append-nil, ◌⊎◌, inl, inr}
-use Rattle.std.specs.Prelude.{Result, Ok, Err, Option, Some, flat_map}
+use Rattle.std.proofs.Common.{◌≡◌, ◌≤◌, ◌<◌, ◌+◌, ℕ, suc, refl, sym, ap, ◌∙◌, subst, List, [], ◌∷◌, ◌++◌, map, length, drop, get_or, drop-cons, add-one, append_assoc, append-nil, inl, inr}
+use Rattle.std.specs.Prelude.{Result, Ok, Err, flat_map}
 use Rattle.std.proofs.lemmas.List.{drop_all}
 use Rattle.qk_ast.specs.declared.Form.TheVariants.{Source}
-use Rattle.qk_ast.specs.declared.Module.{Module}
 use Rattle.qk_ast.specs.declared.ScopeKind.{ScopeKind}
 use Rattle.qk_ast.specs.declared.RuleKind.{RuleKind}
 use Rattle.qk_ast.specs.Texts.{Text}
@@ -13,7 +12,7 @@ use Rattle.qk_ast.specs.Application.{Breach, Of_names, Of_places, naming_of, pla
 use Rattle.qk_modules.specs.declared.modules.NamedModule.{NamedModule}
 use Rattle.qk_modules.specs.declared.modules.Modules.{Modules}
 use Rattle.qk_modules.specs.declared.fault.GatherFault.{GatherFault}
-use Rattle.qk_modules.specs.declared.fault.GatherFault.TheVariants.{Store, Memory}
+use Rattle.qk_modules.specs.declared.fault.GatherFault.TheVariants.{Store}
 use Rattle.qk_modules.specs.Causes as gathering
 use Rattle.qk_scope.specs.declared.resolver.Names.{Names}
 use Rattle.qk_scope.specs.declared.fault.ScopeFault.{ScopeFault}

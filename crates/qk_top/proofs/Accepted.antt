@@ -1,18 +1,16 @@
 -- An application that is played is refused for nothing.
-use Rattle.std.proofs.Common.{◌≡◌, ◌≤◌, ◌<◌, refl, sym, ap, ◌∙◌, subst, arith, List, [], ◌∷◌, map, length, get_or, ◌⊎◌, inl, inr}
+use Rattle.std.proofs.Common.{◌≡◌, ◌≤◌, ◌<◌, refl, sym, ap, ◌∙◌, subst, arith, List, [], ◌∷◌, map, length, get_or, inl, inr}
 use Rattle.std.proofs.lemmas.List.{length-map}
-use Rattle.std.specs.Prelude.{Result, Ok, Err, Option, Some, None, IfSome, IfNone}
+use Rattle.std.specs.Prelude.{Result, Ok, Option, Some, None, IfSome, IfNone}
 use Rattle.qk_ast.specs.declared.Module.{Module}
 use Rattle.qk_store.specs.Files.{Files}
 use Rattle.qk_store.specs.Answers.{Answer}
-use Rattle.qk_modules.specs.declared.fault.GatherFault.TheVariants.{Store, Memory}
 use Rattle.qk_first.specs.Shape.{HasFirstShape}
 use Rattle.qk_first.specs.declared.shape.Counter.{Counter as Kept}
 use Rattle.qk_first.specs.Kept.{IsCounterOf}
 use Rattle.qk_modules.specs.declared.modules.NamedModule.{NamedModule}
 use Rattle.qk_application.specs.declared.application.Application.{Application}
 use Rattle.qk_application.specs.declared.fault.ApplicationFault.{ApplicationFault}
-use Rattle.qk_application.specs.declared.fault.ApplicationFault.TheVariants.{Gathering}
 use Rattle.qk_application.specs.Accepting.{Accepts, AcceptsOver}
 use Rattle.qk_application.specs.Laws.{IsFailure}
 use Rattle.qk_application.proofs.Excluded.{one_application, accepted_or_refused, one_refusal, accepts_over}

@@ -1,8 +1,7 @@
 -- What a read tells of the file.
 use Rattle.std.proofs.Common.{◌≡◌, ◌≤◌, ◌<◌, ℕ, Bool, true, false, List, refl, sym, ap, subst, length, arith, Option, Some, None}
 use Rattle.std.specs.Prelude.{nat_lt, if◌then◌else◌}
-use Rattle.std.proofs.Common.{◌⊎◌, inl, inr}
-use Rattle.std.specs.Prelude.{Result, Ok, Err, IfOk, IfErr, IsErrOf}
+use Rattle.std.specs.Prelude.{Result, Ok, Err}
 use Rattle.qk_store.specs.Files.{Files}
 use Rattle.qk_top.specs.declared.stop.ScriptRefusal.TheVariants as scripts
 use Rattle.qk_top.specs.declared.stop.Stop.{Stop}

@@ -1,6 +1,6 @@
 -- How a command ends for a fault of the application.
-use Rattle.std.proofs.Common.{◌≡◌, ◌≤◌, ℕ, refl, sym, ap, ◌∙◌, subst, arith, ◌⊎◌, inl, inr}
-use Rattle.std.specs.Prelude.{Result, Ok, Err, Option, Some, None}
+use Rattle.std.proofs.Common.{◌≡◌, ℕ, refl, sym, ap, ◌∙◌, subst, arith, ◌⊎◌, inl, inr}
+use Rattle.std.specs.Prelude.{Result, Ok, Err, Some, None}
 use Rattle.qk_modules.specs.declared.fault.GatherFault.TheVariants.{Store}
 use Rattle.qk_application.specs.declared.application.Application.{Application as Accepted}
 use Rattle.qk_application.specs.declared.fault.ApplicationFault.{ApplicationFault}
@@ -11,11 +11,10 @@ use Rattle.qk_top.specs.declared.stop.Stop.TheVariants.{Usage, Script, Applicati
 use Rattle.qk_top.specs.declared.refusal.Kind.{Kind}
 use Rattle.qk_top.specs.declared.refusal.What.{What}
 use Rattle.qk_top.specs.declared.refusal.What.TheVariants as what
-use Rattle.qk_top.specs.declared.refusal.Refusal.{Refusal}
 use Rattle.qk_meaning.specs.Value.{Text}
 use Rattle.qk_modules.specs.Gathering.{root}
 use Rattle.qk_top.specs.Saying.{Said, of_root, said_of}
-use Rattle.qk_top.specs.Refusals.{kind_text, what_text, said_by, StopsFor, RefusesRoot}
+use Rattle.qk_top.specs.Refusals.{kind_text, what_text, StopsFor, RefusesRoot}
 use Rattle.qk_top.specs.Stops.{EndsForFaults}
 
 pub same_stop : {T : Type 0} (a b : Stop) → ◌≡◌ {A = Result T Stop} (Err a) (Err b) → a ≡ b

@@ -1,7 +1,6 @@
 -- The block of one event, and the counter that the program keeps.
-use Rattle.std.specs.Prelude.{ℕ, suc, ℤ, Bool, true, false, List, [], ◌∷◌, ◌++◌, Option, Some, None, unwrap_or, codes}
-use Rattle.std.specs.Option.{option_copied, option_map}
-use Rattle.qk_ast.specs.First.{First_attribute, Id, On_click}
+use Rattle.std.specs.Prelude.{ℕ, suc, ℤ, true, false, List, [], ◌∷◌, ◌++◌, Option, Some, None, unwrap_or, codes}
+use Rattle.std.specs.Option.{option_map}
 use Rattle.qk_meaning.specs.Value.{Text}
 use Rattle.qk_meaning.specs.Item.{Event}
 use Rattle.qk_meaning.specs.Output.{line}

@@ -1,5 +1,5 @@
 -- Refusals of applications as the program keeps them, and how a command ends for a fault.
-use Rattle.std.specs.Prelude.{◌≡◌, ◌⊎◌, Some, codes}
+use Rattle.std.specs.Prelude.{◌≡◌, Some, codes}
 use Rattle.qk_modules.specs.declared.fault.GatherFault.TheVariants.{Store}
 use Rattle.qk_application.specs.declared.fault.ApplicationFault.{ApplicationFault}
 use Rattle.qk_application.specs.declared.fault.ApplicationFault.TheVariants.{Gathering}

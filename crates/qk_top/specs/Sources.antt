@@ -1,5 +1,5 @@
 -- What is read of the store before a script is played.
-use Rattle.std.specs.Prelude.{◌≡◌, ℕ, Some, None, Result, Ok, Err, map}
+use Rattle.std.specs.Prelude.{◌≡◌, Some, None, Result, Ok, Err, map}
 use Rattle.std.specs.declared.vec.Vec.{Vec}
 use Rattle.std.specs.declared.alloc.Global.{Global}
 use Rattle.qk_store.specs.Files.{Files}

@@ -1,6 +1,5 @@
-use Rattle.std.proofs.Common.{rules, ◌≡◌, sym, ◌∙◌, [], append-nil, subst, map, drop, ap}
+use Rattle.std.proofs.Common.{rules, ◌≡◌}
 use Rattle.std.specs.Prelude.{Err}
-use Rattle.std.proofs.lemmas.List.{drop_all}
 use Rattle.qk_ast.specs.Application.{naming_of}
 use Rattle.qk_modules.specs.declared.fault.GatherFault.TheVariants.{Memory}
 use Rattle.qk_application.specs.declared.fault.ApplicationFault.TheVariants.{Gathering}

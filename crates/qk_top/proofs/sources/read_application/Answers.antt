@@ -1,5 +1,3 @@
-use Rattle.std.proofs.Common.{refl}
-use Rattle.std.specs.Prelude.{Ok, Err}
 use Rattle.qk_top.proofs.Accepted.{told_over}
 use Rattle.qk_top.proofs.Stopped.{by_fault, same_stop, ends_accepted, ends_for_store}
 use Rattle.qk_top.proofs.sources.read_application.Goals as goal
