@@ -1,16 +1,17 @@
 #!/usr/bin/env python3
-"""Times reading and parsing real module text of 64 KiB, 256 KiB and 1 MiB, in one run beside esbuild on the same text, and prints a table.
+"""Times reading, parsing and printing real module text of 64 KiB, 256 KiB and 1 MiB, in one run beside esbuild on the same text, and prints a table.
 
-ours      `replay` of an empty script: the whole process up to the parsed module, which is then refused as not yet played
-esbuild   `esbuild --jsx=preserve --loader:.jsx=jsx`, one thread, its output thrown away: it also prints the module
+ours      `qk_reprint root.jsx`: reads the file, parses it and prints the module as built files have it, the output thrown away
+esbuild   `esbuild --jsx=preserve --loader:.jsx=jsx`, one thread, its output thrown away
 Each figure is the best of many runs of the whole process. `growth` is the time of the row over that of the row before, less the start of the
 process (an empty module); 4.0 is linear. `memory` is the greatest resident size less that of an empty module, in bytes a byte of text."""
 import os, shutil, subprocess, tempfile, time
 
 top = os.path.dirname(os.path.dirname(os.path.abspath(__file__)))
-program = os.path.join(top, "crates", "qwk", "out", "qwk")
+crate = os.path.join(top, "crates", "qk_reprint")
+program = os.path.join(crate, "out", "qk_reprint")
 if not os.access(program, os.X_OK):
-    subprocess.run([os.path.join(top, "qwk")], stdout=subprocess.DEVNULL)
+    subprocess.run(["rt", "run"], cwd=crate, stdout=subprocess.DEVNULL, stderr=subprocess.DEVNULL)
 esbuild = shutil.which("esbuild")
 
 IMPORT = 'import { component$, useComputed$, useSignal, useStore } from "@builder.io/qwik";\n'
@@ -70,7 +71,7 @@ def best(command, folder, runs=20):
     return min(r[0] for r in results) * 1000, min(r[1] for r in results)
 
 
-OURS = [program, "replay", "s"]
+OURS = [program, "root.jsx"]
 THEIRS = [esbuild, "--jsx=preserve", "--loader:.jsx=jsx", "root.jsx"] if esbuild else None
 
 with tempfile.TemporaryDirectory() as folder:
@@ -78,7 +79,6 @@ with tempfile.TemporaryDirectory() as folder:
         with open(os.path.join(folder, name), "w") as out:
             out.write(text)
 
-    write("s", "")
     write("root.jsx", "")
     start, bare = best(OURS, folder)
     print(f"start of our process, an empty module: {start:.2f} ms")

@@ -54,6 +54,36 @@ fn gives_the_names_of_each_module(rt: HostRuntime) -> Result<(), Fail> {
     Ok(())
 }
 
+/// Whether it is refused for a name of that module.
+fn is_misnamed(
+    answer: &Result<Application, ApplicationFault>,
+    rule: ScopeKind,
+    of: &str,
+    what: &str,
+) -> bool {
+    match answer {
+        Err(ApplicationFault::Naming { module, kind, name }) => {
+            *kind == rule && module.as_str() == of && name.as_str() == what
+        }
+        _ => false,
+    }
+}
+
+/// Whether it is refused for a place of that module.
+fn is_misplaced(
+    answer: &Result<Application, ApplicationFault>,
+    rule: RuleKind,
+    of: &str,
+    what: &str,
+) -> bool {
+    match answer {
+        Err(ApplicationFault::Placing { module, kind, name }) => {
+            *kind == rule && module.as_str() == of && name.as_str() == what
+        }
+        _ => false,
+    }
+}
+
 #[test]
 fn tries_the_names_of_all_modules_before_places(rt: HostRuntime) -> Result<(), Fail> {
     let alloc = rt.alloc();
@@ -63,26 +93,14 @@ fn tries_the_names_of_all_modules_before_places(rt: HostRuntime) -> Result<(), F
         ("root.jsx", root),
         ("a.jsx", "export const A = component$(() => <b>{x}</b>);"),
     ];
-    match accepted(alloc, &wrong)? {
-        Err(ApplicationFault::Naming { module, kind, name }) => {
-            assert_eq!(rt; module.as_str(), "a");
-            assert_eq!(rt; kind, ScopeKind::UnknownName);
-            assert_eq!(rt; name.as_str(), "x");
-        }
-        _ => assert!(rt; false),
-    }
+    let answer = accepted(alloc, &wrong)?;
+    assert!(rt; is_misnamed(&answer, ScopeKind::UnknownName, "a", "x"));
     let right = [
         ("root.jsx", root),
         ("a.jsx", "export const A = component$(() => <b/>);"),
     ];
-    match accepted(alloc, &right)? {
-        Err(ApplicationFault::Placing { module, kind, name }) => {
-            assert_eq!(rt; module.as_str(), "root");
-            assert_eq!(rt; kind, RuleKind::TagRefused);
-            assert_eq!(rt; name.as_str(), "title");
-        }
-        _ => assert!(rt; false),
-    }
+    let answer = accepted(alloc, &right)?;
+    assert!(rt; is_misplaced(&answer, RuleKind::TagRefused, "root", "title"));
     Ok(())
 }
 

@@ -41,17 +41,25 @@ fn keeps_the_rules(rt: HostRuntime) -> Result<(), Fail> {
     Ok(())
 }
 
+/// Whether the module is refused for this.
+fn is_refused(answer: &Result<Names, ScopeFault>, kind: ScopeKind, name: &str) -> bool {
+    match answer {
+        Err(
+            ScopeFault::Refused {
+                kind: told,
+                name: named,
+            },
+        ) => *told == kind && named.as_str() == name,
+        _ => false,
+    }
+}
+
 #[test]
 fn refuses_the_first_breach(rt: HostRuntime) -> Result<(), Fail> {
     let alloc = rt.alloc();
     let file = Text::from_str(alloc, "root")?;
     let m = module(alloc, "a", "a", "c")?;
-    match resolve(alloc, &file, &m, Form::Source) {
-        Err(ScopeFault::Refused { kind, name }) => {
-            assert!(rt; kind == ScopeKind::DuplicateName);
-            assert_eq!(rt; name.as_str(), "a");
-        }
-        _ => assert!(rt; false),
-    }
+    let answer = resolve(alloc, &file, &m, Form::Source);
+    assert!(rt; is_refused(&answer, ScopeKind::DuplicateName, "a"));
     Ok(())
 }
