@@ -1,6 +1,7 @@
 -- A gathering on its way: the modules that were read, their list, and the answers of the store so far.
 use Rattle.std.specs.Prelude.{◌≡◌, refl, ℕ, ◌+◌, ◌<◌, ◌≤◌, Bool, true, false, IsTrue, List, [], ◌∷◌, ◌++◌, map, length, take, All, Option, Some, None, slice_get, Result, Ok, Err}
 use Rattle.std.specs.Option.{option_map}
+use Rattle.std.specs.Str.{IsUtf8}
 use Rattle.std.proofs.Common.{ap, sym, subst, ◌∙◌, arith, add-one, zero, suc, get_or, nat_lt, ◌⊎◌, inl, inr}
 use Rattle.std.proofs.lemmas.List.{append-nil, append_assoc, length-map, length_push}
 use Rattle.std.proofs.lemmas.List.Elements.{All-append, All-nil}
@@ -19,7 +20,7 @@ use Rattle.qk_modules.specs.declared.modules.NamedModule.{NamedModule}
 use Rattle.qk_modules.specs.declared.modules.Modules.{Modules}
 use Rattle.qk_modules.specs.declared.fault.GatherFault.{GatherFault}
 use Rattle.qk_modules.specs.declared.fault.GatherFault.TheVariants.{Memory}
-use Rattle.qk_modules.specs.Gathering.{root, source_of, sources_in, all_sources, listed, Read_module, named, IsFront, IsWhole, IsNext, read_as, read_of, IsTold, RefusedTurn, Ends, all, unexported, refused, want, behind, Gathers, first_missing}
+use Rattle.qk_modules.specs.Gathering.{root, source_of, sources_in, all_sources, listed, Read_module, named, IsFront, InTurn, IsWhole, IsNext, read_as, read_of, IsTold, RefusedTurn, Ends, all, unexported, refused, want, behind, Gathers, first_missing}
 use Rattle.qk_modules.specs.Listing.{with_imports}
 use Rattle.qk_modules.specs.Turns.{Turns}
 use Rattle.qk_modules.specs.Exporting as set
@@ -29,6 +30,7 @@ use Rattle.qk_modules.proofs.Listed.{grows, each_once_both, by_import}
 pub record Gathering (files : Option Files) (before after : Option (List Answer)) (modules : List NamedModule) (listing : List Text) : Type 0 where
   pub read : List Read_module
   pub front : IsFront read
+  pub first : map (λ m. source_of m.name) read ≡ take (length read) (listed (map named read))
   pub are : map named read ≡ modules
   pub lists : listing ≡ listed (map named read)
   pub answered : after ≡ option_map (behind (map read_of read)) before
@@ -57,6 +59,12 @@ take_next n l more x h =
     take-append-le (n + 1) l more (omega (arith, within))
     ∙ rw (add-one, take-suc l n x within, get_or_from_slice_get l n x x h) refl
 
+-- one more was read at its turn
+in_turn_more : (before others : List Read_module) (m : Read_module) → InTurn before others → IsNext (before ++ others) (source_of m.name) → InTurn before (others ++ m ∷ [])
+in_turn_more before [] m h next = (subst (λ l. IsNext l (source_of m.name)) (append-nil before) next, tt)
+in_turn_more before (o ∷ others) m h next =
+    (h.0, in_turn_more (before ++ o ∷ []) others m h.1 (subst (λ l. IsNext l (source_of m.name)) (sym (append_assoc before (o ∷ []) others)) next))
+
 -- ---- the beginning
 
 at_begin : (answers : Option (List Answer)) → answers ≡ option_map (behind []) answers
@@ -66,7 +74,8 @@ at_begin (Some past) = ap Some (sym (append-nil past))
 pub none_read : (files : Option Files) (answers : Option (List Answer)) → Gathering files answers answers [] (source_of root ∷ [])
 none_read files answers = record {
   read = [];
-  front = record { first = refl; names = All-nil _; derived = All-nil _; few = omega arith };
+  front = record { turns = tt; names = All-nil _; utf8 = All-nil _; derived = All-nil _; few = omega arith };
+  first = refl;
   are = refl;
   lists = refl;
   answered = at_begin answers;
@@ -142,20 +151,21 @@ module _ (files : Option Files) (before between after : Option (List Answer)) (m
     first_more : map (λ r. source_of r.name) read_more ≡ take (length read_more) (listed (map named read_more))
     first_more =
         map_more (λ r. source_of r.name) so_far.read last_read
-        ∙ ap (λ l. l ++ source_of m.name ∷ []) so_far.front.first
+        ∙ ap (λ l. l ++ source_of m.name ∷ []) so_far.first
         ∙ ap (λ (s : Text). take (length so_far.read) (listed (map named so_far.read)) ++ s ∷ []) source_now
         ∙ sym (take_next (length so_far.read) (listed (map named so_far.read)) newer source is_next)
         ∙ ap (λ n. take n (listed (map named so_far.read) ++ newer)) (sym (length_push so_far.read last_read))
         ∙ ap (λ l. take (length read_more) l) (sym list_more)
 
     few_more : length read_more ≤ 256
-    few_more = rw length_push (omega (arith, as_many, turn.comes.3.2))
+    few_more = rw length_push (omega (arith, as_many, turn.comes.3.3))
 
     front_more : IsFront read_more
     front_more = record {
-      first = first_more;
+      turns = in_turn_more [] so_far.read last_read so_far.front.turns (subst (IsNext so_far.read) (sym source_now) is_next);
       names = All-append (λ r. IsTrue (is_module_name r.name)) so_far.read (last_read ∷ []) so_far.front.names (All-one (λ (r : Read_module). IsTrue (is_module_name r.name)) last_read (ap is_module_name name_is ∙ source_names source named_good));
-      derived = All-append (λ r. Derives Source r.text r.tree) so_far.read (last_read ∷ []) so_far.front.derived (All-one (λ (r : Read_module). Derives Source r.text r.tree) last_read turn.comes.3.1);
+      utf8 = All-append (λ r. IsUtf8 r.text) so_far.read (last_read ∷ []) so_far.front.utf8 (All-one (λ (r : Read_module). IsUtf8 r.text) last_read turn.comes.3.1);
+      derived = All-append (λ r. Derives Source r.text r.tree) so_far.read (last_read ∷ []) so_far.front.derived (All-one (λ (r : Read_module). Derives Source r.text r.tree) last_read turn.comes.3.2);
       few = few_more;
     }
 
@@ -163,6 +173,7 @@ module _ (files : Option Files) (before between after : Option (List Answer)) (m
     turn_taken = record {
       read = read_more;
       front = front_more;
+      first = first_more;
       are = named_more;
       lists = ap (λ l. with_imports l m.module.imports) (so_far.lists ∙ ap listed so_far.are) ∙ listed_grows modules m ∙ ap listed (sym named_more);
       answered = turn.answered ∙ ap (option_map (behind turn.last)) so_far.answered ∙ behind_both (map read_of so_far.read) turn.last before ∙ ap (λ l. option_map (behind l) before) (sym answers_more);
@@ -205,7 +216,7 @@ module _ (files : Option Files) (before after : Option (List Answer)) (modules :
   module _ (ended : slice_get listing (length modules) ≡ None) where
     whole : IsWhole so_far.read
     whole =
-        so_far.front.first
+        so_far.first
         ∙ take_all (length so_far.read) (listed (map named so_far.read))
         (subst (λ l. length l ≤ length so_far.read) so_far.lists (subst (λ n. length listing ≤ n) (ap length (sym so_far.are) ∙ length-map so_far.read named) (none_left listing (length modules) ended)))
 

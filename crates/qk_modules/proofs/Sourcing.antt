@@ -33,7 +33,7 @@ all_in_name (c ∷ cs) h =
 pub module_of_source : (name : Text) → is_module_name name ≡ true → source_module (source_of name) ≡ name
 module_of_source name h = up_to_named name (106 ∷ 115 ∷ 120 ∷ []) (all_in_name name h)
 
-source_of_one : (a b : Text) → source_of a ≡ source_of b → a ≡ b
+pub source_of_one : (a b : Text) → source_of a ≡ source_of b → a ≡ b
 source_of_one a b h = append_cancel_right a b (codes ".jsx") (append_cancel_left (codes "./") (file_of a) (file_of b) h)
 
 pub is_source_of : (name : Text) → is_module_name name ≡ true → is_module_source (source_of name) ≡ true

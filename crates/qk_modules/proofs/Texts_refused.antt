@@ -21,7 +21,7 @@ not_syntax at h = cc
 not_deep : (at : ℕ) → parse.TooDeep at ≡ parse.Memory → ⊥
 not_deep at h = cc
 
-pub text_refused : (before : ℕ) (name text : Text) (fault : ParseFault) → IsUtf8 text → Refused Source text fault → NoneDerived Source text fault → RefusedText before name text (fault_of name fault)
+pub text_refused : (before : ℕ) (name text : Text) (fault : ParseFault) → IsUtf8 text → Refused Source text fault → NoneDerived Source text fault → RefusedText before name text (fault_of name text fault)
 text_refused before name text parse.TooLong utf8 h none = unparsed utf8 h none not_long
 text_refused before name text (parse.Lexical at) utf8 h none = unparsed utf8 h none (not_lexical at)
 text_refused before name text (parse.Syntax at) utf8 h none = unparsed utf8 h none (not_syntax at)

@@ -12,6 +12,7 @@ use Rattle.qk_modules.specs.declared.modules.NamedModule.{NamedModule}
 use Rattle.qk_modules.specs.declared.fault.GatherFault.{GatherFault}
 use Rattle.qk_modules.specs.declared.fault.GatherFault.TheVariants.{Store, Memory, Parse}
 use Rattle.qk_parse.specs.declared.parse.ParseFault.TheVariants as parse
+use Rattle.qk_modules.specs.Places.{beginning}
 use Rattle.qk_modules.specs.Gathering.{named_by, file_of, read_as, IsTold, absence, RefusedTurn, no_source, no_file, long, text, failed, want, want_behind, behind}
 use Rattle.qk_modules.specs.Turns.{Turns, TurnComes, TextComes}
 
@@ -84,8 +85,8 @@ module _ (files : Option Files) (before : Option (List Answer)) (modules : List 
     read_gone fault e (inl f) = turn_read gone (Err fault) e (subst (RefusedTurn modules source (read_as (source_module source) gone ∷ [])) (sym f) (no_file good))
     read_gone fault e (inr f) = turn_read gone (Err fault) e (subst (RefusedTurn modules source (read_as (source_module source) gone ∷ [])) (sym f) (want_behind gone good))
 
-    pub read_long : (fault : GatherFault) → found ≡ too_long → fault ≡ Parse name parse.TooLong → Turns files before after modules source (Err fault)
-    read_long fault e f = turn_read too_long (Err fault) e (subst (RefusedTurn modules source (read_as (source_module source) too_long ∷ [])) (sym (f ∙ ap (λ (n : Text). Parse n parse.TooLong) name_is)) (long good))
+    pub read_long : (fault : GatherFault) → found ≡ too_long → fault ≡ Parse name parse.TooLong beginning → Turns files before after modules source (Err fault)
+    read_long fault e f = turn_read too_long (Err fault) e (subst (RefusedTurn modules source (read_as (source_module source) too_long ∷ [])) (sym (f ∙ ap (λ (n : Text). Parse n parse.TooLong beginning) name_is)) (long good))
 
     text_turn : (t : Text) (result : Result NamedModule GatherFault) → TextComes (length modules) (source_module source) t result → TurnComes modules source (read_as (source_module source) (bytes t) ∷ []) result
     text_turn t (Ok m) h = (t, refl, good, h)

@@ -1,5 +1,5 @@
 -- The modules that `root.jsx` reaches, and why an application is refused before its names are looked at.
-use Rattle.std.specs.Prelude.{◌≡◌, ◌≤◌, ℕ, Bool, true, false, not, ◌&&◌, IsTrue, IsFalse, List, [], ◌∷◌, ◌++◌, codes, map, length, take, All, Option, Some, None, slice_get, unwrap_or, Result, Ok, Err}
+use Rattle.std.specs.Prelude.{◌≡◌, ◌≤◌, ℕ, Bool, true, false, not, ◌&&◌, IsTrue, IsFalse, List, [], ◌∷◌, ◌++◌, codes, map, length, All, Option, Some, None, slice_get, unwrap_or, Result, Ok, Err}
 use Rattle.std.specs.List.{list_any, find}
 use Rattle.std.specs.Option.{option_map}
 use Rattle.std.specs.Str.{IsUtf8}
@@ -17,6 +17,7 @@ use Rattle.qk_store.specs.Answers.{Content, gone, too_long, bytes, reading, Answ
 use Rattle.qk_parse.specs.declared.parse.ParseFault.{ParseFault}
 use Rattle.qk_parse.specs.declared.parse.ParseFault.TheVariants as parse
 use Rattle.qk_parse.specs.Parsing.{Refused, NoneDerived}
+use Rattle.qk_modules.specs.Places.{place_of, beginning}
 use Rattle.qk_modules.specs.declared.modules.NamedModule.{NamedModule}
 use Rattle.qk_modules.specs.declared.modules.Modules.{Modules}
 use Rattle.qk_modules.specs.declared.fault.GatherFault.{GatherFault}
@@ -62,20 +63,26 @@ pub record Read_module : Type 0 where
 abbrev pub named : Read_module → NamedModule
 named m = record { name = m.name; «module» = m.tree }
 
--- Modules are read in the order of the list, so those that were read stand first in it. They are 256 at most.
-pub record IsFront (read : List Read_module) : Type 0 where
-  pub first : map (λ m. source_of m.name) read ≡ take (length read) (listed (map named read))
-  pub names : All (λ m. IsTrue (is_module_name m.name)) read
-  pub derived : All (λ m. Derives Source m.text m.tree) read
-  pub few : length read ≤ 256
-
 -- no module of the list is left
 abbrev pub IsWhole : List Read_module → Type 0
 IsWhole read = map (λ m. source_of m.name) read ≡ listed (map named read)
 
--- it is this one's turn
+-- it is this one's turn: of the list by those that were read it is the next
 abbrev pub IsNext : List Read_module → (source : Text) → Type 0
 IsNext read source = slice_get (listed (map named read)) (length read) ≡ Some source
+
+-- behind those before, each of the others was read at its turn
+abbrev pub InTurn : (before others : List Read_module) → Type 0
+InTurn before [] = Unit {0}
+InTurn before (m ∷ others) = IsNext before (source_of m.name) × InTurn (before ++ m ∷ []) others
+
+-- Modules that were read: each at its turn, from the root on. They are 256 at most.
+pub record IsFront (read : List Read_module) : Type 0 where
+  pub turns : InTurn [] read
+  pub names : All (λ m. IsTrue (is_module_name m.name)) read
+  pub utf8 : All (λ m. IsUtf8 m.text) read
+  pub derived : All (λ m. Derives Source m.text m.tree) read
+  pub few : length read ≤ 256
 
 -- ---- what is read
 
@@ -141,7 +148,7 @@ absence (m ∷ rest) source = ImportMissing (unwrap_or (find (imports_from sourc
 -- The text of a module is refused, where so many modules stand before it.
 pub data RefusedText (before : ℕ) (name text : Text) : GatherFault → Type 0 where
   not_utf8 : ¬ IsUtf8 text → RefusedText before name text (NotUtf8 name)
-  unparsed : {fault : ParseFault} → IsUtf8 text → Refused Source text fault → NoneDerived Source text fault → ¬ (fault ≡ parse.Memory) → RefusedText before name text (Parse name fault)
+  unparsed : {fault : ParseFault} → IsUtf8 text → Refused Source text fault → NoneDerived Source text fault → ¬ (fault ≡ parse.Memory) → RefusedText before name text (Parse name fault (place_of text fault))
   too_many : {m : Module} → 256 ≤ before → Derives Source text m → RefusedText before name text TooMany
   want : RefusedText before name text Memory
 
@@ -150,7 +157,7 @@ pub data RefusedTurn (modules : List NamedModule) (source : Text) : List Answer 
   -- the source is none of a module
   no_source : IsFalse (is_module_source source) → RefusedTurn modules source [] (absence modules source)
   no_file : IsTrue (is_module_source source) → RefusedTurn modules source (read_as (source_module source) gone ∷ []) (absence modules source)
-  long : IsTrue (is_module_source source) → RefusedTurn modules source (read_as (source_module source) too_long ∷ []) (Parse (source_module source) parse.TooLong)
+  long : IsTrue (is_module_source source) → RefusedTurn modules source (read_as (source_module source) too_long ∷ []) (Parse (source_module source) parse.TooLong beginning)
   text : {t : Text} {fault : GatherFault} → IsTrue (is_module_source source) → RefusedText (length modules) (source_module source) t fault → RefusedTurn modules source (read_as (source_module source) (bytes t) ∷ []) fault
   failed : RefusedTurn modules source [] Store
   want : RefusedTurn modules source [] Memory
@@ -175,4 +182,12 @@ pub record Gathers (files : Option Files) (before after : Option (List Answer)) 
   pub front : IsFront read
   pub answered : after ≡ option_map (behind (map read_of read ++ last)) before
   pub told : (told : Files) → files ≡ Some told → All (IsTold told) (map read_of read ++ last)
+  pub ends : Ends read last result
+
+-- What gathering answers over a store of these files, whatever else the store tells.
+pub record GathersOver (files : Files) (result : Result Modules GatherFault) : Type 0 where
+  pub read : List Read_module
+  pub last : List Answer
+  pub front : IsFront read
+  pub told : All (IsTold files) (map read_of read ++ last)
   pub ends : Ends read last result

@@ -1,3 +1,4 @@
+pub mod Places
 pub mod Gathering
 pub mod Importing
 pub mod Turns
@@ -5,3 +6,4 @@ pub mod Exporting
 pub mod Causes
 pub mod Listing
 pub mod Known
+pub mod Laws

@@ -62,10 +62,10 @@ const ROWS: [Row; 15] = [
     Row {
         what: "a source that is none is refused at its turn, behind a module before it",
         root: "import { x } from \"./a.jsx\"; import { y } from \"zzz\"; export const App = 1;",
-        a: "const x = ;",
+        a: "const x\n  = ;",
         b: "",
         c: "",
-        answer: "Parse a",
+        answer: "Parse a 2:5",
     },
     Row {
         what: "and before the modules that a module before it imports",
@@ -113,7 +113,7 @@ const ROWS: [Row; 15] = [
         a: "import { x } from \"./b.jsx\"; const X = 1;",
         b: "const",
         c: "",
-        answer: "Parse b",
+        answer: "Parse b 1:6",
     },
     Row {
         what: "a name that the framework doesn't have",
@@ -180,10 +180,19 @@ fn told(alloc: Global, answer: &Result<Modules, GatherFault>) -> Result<String, 
             told_of(alloc, "ExportMissing", module.as_str(), name.as_str())
         }
         Err(GatherFault::NotUtf8 { module }) => told_of(alloc, "NotUtf8", module.as_str(), ""),
-        Err(GatherFault::Parse { module, fault }) => match fault {
-            ParseFault::TooLong => told_of(alloc, "TooLong", module.as_str(), ""),
-            _ => told_of(alloc, "Parse", module.as_str(), ""),
-        },
+        Err(
+            GatherFault::Parse {
+                module,
+                fault,
+                place,
+            },
+        ) => {
+            let at = format!(in alloc; "{}:{}", place.line, place.column)?;
+            match fault {
+                ParseFault::TooLong => told_of(alloc, "TooLong", module.as_str(), at.as_str()),
+                _ => told_of(alloc, "Parse", module.as_str(), at.as_str()),
+            }
+        }
         Err(GatherFault::TooMany) => told_of(alloc, "TooMany", "", ""),
         Err(GatherFault::Store) => told_of(alloc, "Store", "", ""),
         Err(GatherFault::Memory) => told_of(alloc, "Memory", "", ""),
@@ -253,7 +262,7 @@ fn tries_the_length_before_the_encoding(rt: HostRuntime) -> Result<(), Fail> {
     }
     let mut long = Vec::new(alloc);
     add(alloc, &mut long, "root.jsx", bytes.as_slice())?;
-    gathers(&rt, alloc, "too long", long, "TooLong root")
+    gathers(&rt, alloc, "too long", long, "TooLong root 1:1")
 }
 
 /// A name of a module for each number below 256.

@@ -8,9 +8,11 @@ ghost use Rattle.qk_store.specs.Answers.{content, reading};
 ghost use Rattle.qk_modules.specs.Gathering as gathering;
 ghost use Rattle.qk_modules.specs.Gathering.{read_as, file_of, behind};
 ghost use Rattle.qk_modules.specs.Turns.{TextComes, Turns, fault_of};
+ghost use Rattle.qk_modules.specs.Places.{beginning};
 ghost use Rattle.qk_modules.specs.Causes.{FailsByStore};
 
 use crate::names::{file_name, named_by};
+use crate::place::{BEGINNING, place_of};
 use crate::{GatherFault, NamedModule};
 use qk_ast::{Form, Import};
 use qk_base::limits;
@@ -37,7 +39,7 @@ pub(crate) fn take_turn<S: Store>(
     let name = Text::from_str(alloc, name)?;
     match read_file(alloc, store, &name) {
         Ok(Found::Gone) => Err(absence(modules, source)),
-        Ok(Found::TooLong) => Err(unparsed(name, ParseFault::TooLong)),
+        Ok(Found::TooLong) => Err(too_long(name)),
         Ok(Found::Bytes(bytes)) => parsed(alloc, modules.len(), name, bytes.as_slice()),
         Err(fault) => Err(fault),
     }
@@ -129,19 +131,31 @@ fn parsed(
     match parse_module(alloc, text, Form::Source) {
         Ok(_) if before >= limits::MODULES => Err(GatherFault::TooMany),
         Ok(module) => Ok(NamedModule { name, module }),
-        Err(fault) => Err(unparsed(name, fault)),
+        Err(fault) => Err(unparsed(name, bytes, fault)),
     }
 }
 
-/// Why the module isn't parsed.
-fn unparsed(name: Text, fault: ParseFault) -> GatherFault
-    ensures { result ≡ fault_of name fault }
+/// Why the module of this text isn't parsed.
+fn unparsed(name: Text, text: &[u8], fault: ParseFault) -> GatherFault
+    ensures { result ≡ fault_of name text.now fault }
 {
     match fault {
         ParseFault::Memory => GatherFault::Memory,
         fault => GatherFault::Parse {
             module: name,
             fault,
+            place: place_of(text, fault),
         },
+    }
+}
+
+/// The refusal of a module whose file is too long.
+fn too_long(name: Text) -> GatherFault
+    ensures { result ≡ GatherFault.Parse name ParseFault.TooLong beginning }
+{
+    GatherFault::Parse {
+        module: name,
+        fault: ParseFault::TooLong,
+        place: BEGINNING,
     }
 }

@@ -1,8 +1,10 @@
 -- What comes of a command, step by step.
-use Rattle.std.proofs.Common.{◌≡◌, ◌≤◌, List, refl, sym, ap, ◌∙◌, subst, map, length, Option, Some, inl, inr}
+use Rattle.std.proofs.Common.{◌≡◌, ◌≤◌, List, [], ◌∷◌, refl, sym, ap, ◌∙◌, subst, map, length, Option, Some, inl, inr}
 use Rattle.std.specs.Prelude.{Result, Ok, Err}
 use Rattle.qk_ast.specs.declared.Module.{Module}
 use Rattle.qk_store.specs.Files.{Files}
+use Rattle.qk_application.specs.declared.application.Application.{Application as Accepted}
+use Rattle.qk_application.specs.Accepting.{AcceptsOver}
 use Rattle.qk_meaning.specs.Value.{Text}
 use Rattle.qk_meaning.specs.Item.{Event}
 use Rattle.qk_meaning.specs.Run.{Line, Happens}
@@ -15,13 +17,14 @@ use Rattle.qk_top.specs.Script.{SpellsItems, SpellsEvents}
 use Rattle.qk_top.specs.Blocks.{played_text}
 use Rattle.qk_top.proofs.Outputs.{output_is}
 use Rattle.qk_top.specs.Words.{IsReplay}
-use Rattle.qk_top.specs.Answers.{IsOutput, Plays, gone_script, refused_script, gone_root, refused_root}
-use Rattle.qk_top.specs.Sources.{IsRoot, ScriptComes}
+use Rattle.qk_top.specs.Answers.{IsOutput, IsPlayed, Plays, gone_script, refused_script, Refuses, refused, not_built}
+use Rattle.qk_top.specs.Refusals.{RefusesRoot}
+use Rattle.qk_top.specs.Sources.{ApplicationComes, ScriptComes}
 use Rattle.qk_top.specs.declared.stop.ScriptRefusal.TheVariants as scripts
-use Rattle.qk_top.specs.declared.stop.ApplicationRefusal.TheVariants as application
+use Rattle.qk_top.specs.declared.refusal.Kind.TheVariants as kind
 use Rattle.qk_top.specs.declared.stop.Stop.{Stop}
 use Rattle.qk_top.specs.declared.stop.Stop.TheVariants.{Usage, Script, Application, StoreFailed, SinkFailed, Memory}
-use Rattle.qk_top.specs.Coming.{RootPlays, RootComes, CommandPlays, CommandComes}
+use Rattle.qk_top.specs.Coming.{ApplicationPlays, EventsCome, CommandPlays, CommandComes}
 
 -- what is printed as the counter of a module of the first shape is the output of its run
 output_of : (m : Module) (kept : Kept) (events : List Event) → IsCounterOf kept m → length events ≤ 65536 → IsOutput m events (played_text (counter_in kept) events)
@@ -29,9 +32,31 @@ output_of m kept events h short =
     let runs = subst (λ n. RunsAsCounter n (counter_of h.shape.text) events) h.shape.means (first_runs h.shape.text h.shape.fits events short) in
     record { entries = runs.entries; run = runs.run; printed = output_is (counter_in kept) events ∙ (h.plays.printed events ∙ sym runs.prints) }
 
-pub root_plays : (told : Files) (m : Module) (kept : Kept) (events : List Event) → IsRoot told (Ok m) → IsCounterOf kept m → length events ≤ 65536 → RootPlays told events (played_text (counter_in kept) events)
-root_plays told m kept events (source, stands, derives) h short =
-    record { m = m; source = source; stands = stands; derives = derives; shape = h.shape; printed = output_of m kept events h short }
+pub application_plays : (told : Files) (a : Accepted) (m : Module) (kept : Kept) (events : List Event) → AcceptsOver told (Ok a) → map (λ n. n.module) a.modules.list ≡ m ∷ [] → IsCounterOf kept m → length events ≤ 65536
+    → ApplicationPlays told events (played_text (counter_in kept) events)
+application_plays told a m kept events accepted alone h short =
+    record { m = m; application = a; accepted = accepted; one = record { alone = alone; shape = h.shape }; printed = output_of m kept events h short }
+
+-- the application isn't accepted
+pub fault_ended : (told : Files) (events : List Event) (before : Option Text) (stop : Stop) (r : Result (Unit {0}) Stop) → ApplicationComes told (Err stop) → r ≡ Err stop → EventsCome told events before before r
+fault_ended told events before stop r comes e = subst (EventsCome told events before before) (sym e) (by_stop stop comes)
+  where
+    by_stop : (s : Stop) → ApplicationComes told (Err s) → EventsCome told events before before (Err s)
+    by_stop Usage h = h.2
+    by_stop (Script kind) h = h.2
+    by_stop (Application refusal) h = (refused h.1 h.2, refl)
+    by_stop StoreFailed h = refl
+    by_stop SinkFailed h = absurd h.2
+    by_stop Memory h = inl refl
+
+-- it is accepted, and none that is played yet
+pub not_built_ended : (told : Files) (events : List Event) (before : Option Text) (a : Accepted) (stop : Stop) → AcceptsOver told (Ok a) → ((m : Module) → ¬ IsPlayed a m) → RefusesRoot kind.NotBuilt stop → EventsCome told events before before (Err stop)
+not_built_ended told events before a Usage accepted none h = h
+not_built_ended told events before a (Script kind) accepted none h = h
+not_built_ended told events before a (Application refusal) accepted none h = (subst (Refuses told) (sym h) (not_built accepted none), refl)
+not_built_ended told events before a StoreFailed accepted none h = absurd h
+not_built_ended told events before a SinkFailed accepted none h = absurd h
+not_built_ended told events before a Memory accepted none h = inl refl
 
 -- ---- from the application's part to the command
 
@@ -60,22 +85,17 @@ script_ended words told script before stop r command ended e = subst (CommandCom
     by_stop SinkFailed h = absurd h.2
     by_stop Memory h = inl refl
 
--- a root that plays is a command that plays
-command_plays : (words : List Text) (told : Files) (events : List Event) (text : Text) → Plays words told events → RootPlays told events text → CommandPlays words told text
-command_plays words told events text plays root =
-    record { m = root.m; events = events; accepted = record { plays = plays; source = root.source; stands = root.stands; derives = root.derives; shape = root.shape }; printed = root.printed }
+-- an application that plays is a command that plays
+command_plays : (words : List Text) (told : Files) (events : List Event) (text : Text) → Plays words told events → ApplicationPlays told events text → CommandPlays words told text
+command_plays words told events text plays h =
+    record { m = h.m; events = events; accepted = record { plays = plays; application = h.application; accepted = h.accepted; one = h.one }; printed = h.printed }
 
-pub root_ended : (words : List Text) (told : Files) (events : List Event) (before after : Option Text) (r : Result (Unit {0}) Stop) → Plays words told events → RootComes told events before after r → CommandComes words told before after r
-root_ended words told events before after (Ok u) plays comes = (comes.0, command_plays words told events comes.0 plays comes.1, comes.2)
-root_ended words told events before after (Err Usage) plays comes = absurd comes
-root_ended words told events before after (Err (Script kind)) plays comes = absurd comes
-root_ended words told events before after (Err (Application application.RootMissing)) plays comes = (gone_root plays comes.0, comes.1)
-root_ended words told events before after (Err (Application application.TooLong)) plays comes = (refused_root plays comes.0.1 comes.0.2, comes.1)
-root_ended words told events before after (Err (Application (application.Lexical place))) plays comes = (refused_root plays comes.0.1 comes.0.2, comes.1)
-root_ended words told events before after (Err (Application (application.Syntax place))) plays comes = (refused_root plays comes.0.1 comes.0.2, comes.1)
-root_ended words told events before after (Err (Application (application.TooDeep place))) plays comes = (refused_root plays comes.0.1 comes.0.2, comes.1)
-root_ended words told events before after (Err (Application application.NotBuilt)) plays comes = (refused_root plays comes.0.1 comes.0.2, comes.1)
-root_ended words told events before after (Err StoreFailed) plays comes = comes
-root_ended words told events before after (Err SinkFailed) plays comes = (comes.0, command_plays words told events comes.0 plays comes.1, comes.2)
-root_ended words told events before after (Err Memory) plays (inl same) = inl same
-root_ended words told events before after (Err Memory) plays (inr comes) = inr (comes.0, command_plays words told events comes.0 plays comes.1, comes.2)
+pub events_ended : (words : List Text) (told : Files) (events : List Event) (before after : Option Text) (r : Result (Unit {0}) Stop) → Plays words told events → EventsCome told events before after r → CommandComes words told before after r
+events_ended words told events before after (Ok u) plays comes = (comes.0, command_plays words told events comes.0 plays comes.1, comes.2)
+events_ended words told events before after (Err Usage) plays comes = absurd comes
+events_ended words told events before after (Err (Script kind)) plays comes = absurd comes
+events_ended words told events before after (Err (Application refusal)) plays comes = (record { events = events; plays = plays; refuses = comes.0 }, comes.1)
+events_ended words told events before after (Err StoreFailed) plays comes = comes
+events_ended words told events before after (Err SinkFailed) plays comes = (comes.0, command_plays words told events comes.0 plays comes.1, comes.2)
+events_ended words told events before after (Err Memory) plays (inl same) = inl same
+events_ended words told events before after (Err Memory) plays (inr comes) = inr (comes.0, command_plays words told events comes.0 plays comes.1, comes.2)

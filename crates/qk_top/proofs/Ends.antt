@@ -3,8 +3,6 @@ use Rattle.std.proofs.Common.{◌≡◌, ℕ, List, [], ◌∷◌, ◌++◌, ref
 use Rattle.std.specs.Prelude.{Result, Err, codes}
 use Rattle.std.specs.Option.{option_map}
 use Rattle.qk_ast.specs.declared.Module.{Module}
-use Rattle.qk_ast.specs.declared.Form.TheVariants.{Source}
-use Rattle.qk_ast.specs.Derives.{Derives}
 use Rattle.qk_store.specs.Files.{Files}
 use Rattle.qk_store.specs.Causes.{Rose}
 use Rattle.qk_store.specs.Pieces.{with_piece, AppendsFront}
@@ -15,12 +13,13 @@ use Rattle.qk_top.specs.declared.stop.Stop.{Stop}
 use Rattle.qk_top.specs.declared.stop.Stop.TheVariants.{Usage, Script, Application, StoreFailed, SinkFailed, Memory}
 use Rattle.qk_top.specs.Words.{IsReplay}
 use Rattle.qk_top.specs.Script.{SpellsEvents, RefusedText}
-use Rattle.qk_top.specs.Answers.{root_name, IsUsage, Plays, RefusedScript, gone_script, refused_script, RefusedApplication, gone_root, refused_root, IsAccepted, IsOutput, Answers, played, usage, application as refused_application, script, store_failed, IsFront, nothing, begun, memory, memory_alone}
+use Rattle.qk_top.specs.Saying.{Said, said_line}
+use Rattle.qk_top.specs.Answers.{IsUsage, Plays, RefusedScript, gone_script, refused_script, RefusedApplication, IsAccepted, IsOutput, Answers, played, usage, application as refused_application, script, store_failed, IsFront, nothing, begun, memory, memory_alone}
 use Rattle.qk_top.specs.Stops.{status_of, last_line_of, EndsForFaults, IsPut, PutsLastLine, whole, in_part, in_want, Finishes}
 use Rattle.qk_top.specs.Coming.{CommandPlays, CommandComes}
 use Rattle.qk_top.specs.Run.{IsOneOf, Comes}
 use Rattle.qk_top.proofs.Plays.{front_behind, pieces_join}
-use Rattle.qk_top.proofs.Refusals.{one_module_of, not_refused_source}
+use Rattle.qk_top.proofs.Accepted.{one_played, one_said, accepted_not_said}
 use Rattle.qk_top.proofs.Scripts.{one_script, not_refused, one_refusal}
 
 put_nothing : (o : Option (List ℕ)) → o ≡ option_map (with_piece []) o
@@ -60,7 +59,7 @@ from_memory status (inr (inr (inl e))) = inr (inr (inl e))
 from_memory status (inr (inr (inr e))) = absurd e
 
 outside_comes : {words : List Text} {told : Files} (status : ℕ) → IsOneOf status (6 ∷ 7 ∷ 8 ∷ []) → Comes words told status
-outside_comes status h = record { accepted = λ m events a. inr h; application = λ kind what r. inr h; script = λ kind r. inr h }
+outside_comes status h = record { accepted = λ m events a. inr h; application = λ said r. inr h; script = λ kind r. inr h }
 
 memory_complete : (between after : Option Text) (f g h status : ℕ) → PutsLastLine Memory between after g h status → g ≡ f → ¬ Rose f h → (status ≡ 0) ⊎ (status ≡ 8)
 memory_complete between after f g h status (whole e put kept) same none = inr e
@@ -162,6 +161,23 @@ module _ (words : List Text) (told : Files) where
       let whole = printed_whole stop before between after f g status comes ends (λ seven. omega (arith, five, seven)) in
       subst (λ t. IsPut t before after) (line_answered status whole.0 kind whole.1 five refused) whole.2
 
+  -- ---- the line of a refused application
+
+  said_answered : (status : ℕ) (text : Text) (said : Said) → Answers words told status text → status ≡ 2 → RefusedApplication words told said → text ≡ said_line said
+  said_answered status text said (played accepted printed) two given = absurd (omega (arith, two))
+  said_answered status text said (usage none) two given = absurd (omega (arith, two))
+  said_answered status text said (refused_application {said = own} refused) two given = ap said_line (one_said told own said refused.refuses given.refuses)
+  said_answered status text said (script refused) two given = absurd (omega (arith, two))
+  said_answered status text said store_failed two given = absurd (omega (arith, two))
+  said_answered status text said (memory front) two given = absurd (omega (arith, two))
+  said_answered status text said (memory_alone front) two given = absurd (omega (arith, two))
+
+  pub application_line_put : (stop : Stop) (before between after : Option Text) (f g status : ℕ) (said : Said) → CommandComes words told before between (Err stop) → Finishes stop between after f g status → RefusedApplication words told said → status ≡ 2
+      → IsPut (said_line said) before after
+  application_line_put stop before between after f g status said comes ends refused two =
+      let whole = printed_whole stop before between after f g status comes ends (λ seven. omega (arith, two, seven)) in
+      subst (λ t. IsPut t before after) (said_answered status whole.0 said whole.1 two refused) whole.2
+
   -- ---- one cause excludes the others
 
   plays_not_usage : (events : List Event) → Plays words told events → IsUsage words → ⊥
@@ -172,14 +188,8 @@ module _ (words : List Text) (told : Files) where
   plays_not_refused events kind plays (refused_script {text = text} command stands refused) =
       not_refused text events kind (subst (λ t. SpellsEvents t events) (same_some plays.text text (sym plays.stands ∙ ap told (same_script words _ _ plays.command command) ∙ stands)) plays.spells) refused
 
-  refused_plays : (kind what : Text) → RefusedApplication words told kind what → (events : List Event) × Plays words told events
-  refused_plays kind what (gone_root plays gone) = (_, plays)
-  refused_plays kind what (refused_root plays stands refused) = (_, plays)
-
-  accepted_not_refused : (m : Module) (events : List Event) (kind what : Text) → IsAccepted words told m events → RefusedApplication words told kind what → ⊥
-  accepted_not_refused m events kind what accepted (gone_root plays gone) = not_both (told root_name) accepted.source accepted.stands gone
-  accepted_not_refused m events kind what accepted (refused_root {source = source} plays stands refused) =
-      not_refused_source source m kind what (subst (λ t. Derives Source t m) (same_some accepted.source source (sym accepted.stands ∙ stands)) accepted.derives) accepted.shape refused
+  accepted_not_refused : (m : Module) (events : List Event) (said : Said) → IsAccepted words told m events → RefusedApplication words told said → ⊥
+  accepted_not_refused m events said accepted r = accepted_not_said told accepted.application m said accepted.accepted accepted.one r.refuses
 
   refused_not_usage : (kind : Text) → RefusedScript words told kind → IsUsage words → ⊥
   refused_not_usage kind (gone_script command gone) none = none _ command
@@ -190,25 +200,25 @@ module _ (words : List Text) (told : Files) where
   pub comes_played : (text : Text) → CommandPlays words told text → Comes words told 0
   comes_played text plays = record {
     accepted = λ m events accepted. inl refl;
-    application = λ kind what refused. absurd (accepted_not_refused plays.m plays.events kind what plays.accepted refused);
+    application = λ said refused. absurd (accepted_not_refused plays.m plays.events said plays.accepted refused);
     script = λ kind refused. absurd (plays_not_refused plays.events kind plays.accepted.plays refused);
   }
 
   pub comes_ended : (stop : Stop) (before between after : Option Text) (f g status : ℕ) → CommandComes words told before between (Err stop) → Finishes stop between after f g status → Comes words told status
   comes_ended Usage before between after f g status comes ends = record {
     accepted = λ m events accepted. absurd (plays_not_usage events accepted.plays comes.0);
-    application = λ kind what refused. absurd (plays_not_usage _ (refused_plays kind what refused).1 comes.0);
+    application = λ said refused. absurd (plays_not_usage _ refused.plays comes.0);
     script = λ kind refused. absurd (refused_not_usage kind refused comes.0);
   }
   comes_ended (Script own) before between after f g status comes ends = record {
     accepted = λ m events accepted. absurd (plays_not_refused events _ accepted.plays comes.0);
-    application = λ kind what refused. absurd (plays_not_refused _ _ (refused_plays kind what refused).1 comes.0);
+    application = λ said refused. absurd (plays_not_refused _ _ refused.plays comes.0);
     script = λ kind refused. with_outside 5 status (last_line_status (Script own) between after f g status ends);
   }
   comes_ended (Application own) before between after f g status comes ends = record {
-    accepted = λ m events accepted. absurd (accepted_not_refused m events _ _ accepted comes.0);
-    application = λ kind what refused. with_outside 2 status (last_line_status (Application own) between after f g status ends);
-    script = λ kind refused. absurd (plays_not_refused _ kind (refused_plays _ _ comes.0).1 refused);
+    accepted = λ m events accepted. absurd (accepted_not_refused m events _ accepted comes.0);
+    application = λ said refused. with_outside 2 status (last_line_status (Application own) between after f g status ends);
+    script = λ kind refused. absurd (plays_not_refused _ kind comes.0.plays refused);
   }
   comes_ended StoreFailed before between after f g status comes ends = outside_comes status (last_line_status StoreFailed between after f g status ends)
   comes_ended SinkFailed before between after f g status comes ends = outside_comes status (inr (inl ends.0))
@@ -221,7 +231,7 @@ module _ (words : List Text) (told : Files) where
       → ¬ Rose store_before store_now → ¬ Rose before_faults now_faults → (status ≡ 0) ⊎ (status ≡ 8)
   complete_ended Usage before between after sb sn f g h status m events accepted comes ends store sink no_store no_sink = absurd (plays_not_usage events accepted.plays comes.0)
   complete_ended (Script own) before between after sb sn f g h status m events accepted comes ends store sink no_store no_sink = absurd (plays_not_refused events _ accepted.plays comes.0)
-  complete_ended (Application own) before between after sb sn f g h status m events accepted comes ends store sink no_store no_sink = absurd (accepted_not_refused m events _ _ accepted comes.0)
+  complete_ended (Application own) before between after sb sn f g h status m events accepted comes ends store sink no_store no_sink = absurd (accepted_not_refused m events _ accepted comes.0)
   complete_ended StoreFailed before between after sb sn f g h status m events accepted comes ends store sink no_store no_sink = absurd (no_store (store.failed refl))
   complete_ended SinkFailed before between after sb sn f g h status m events accepted comes ends store sink no_store no_sink = absurd (no_sink (subst (Rose f) (sym ends.2) (sink.failed refl)))
   complete_ended Memory before between after sb sn f g h status m events accepted comes ends store sink no_store no_sink =
@@ -231,7 +241,7 @@ module _ (words : List Text) (told : Files) where
 
   pub headline_played : (before after : Option Text) (m : Module) (events : List Event) (text : Text) → IsAccepted words told m events → CommandPlays words told text → IsPut text before after → (text : Text) × IsOutput m events text × IsPut text before after
   headline_played before after m events text accepted plays put =
-      let same_module = one_module_of accepted.source plays.m m (subst (λ t. Derives Source t plays.m) (same_some plays.accepted.source accepted.source (sym plays.accepted.stands ∙ accepted.stands)) plays.accepted.derives) accepted.derives in
+      let same_module = one_played told plays.accepted.application accepted.application plays.m m plays.accepted.accepted accepted.accepted plays.accepted.one accepted.one in
       let same_text = same_some plays.accepted.plays.text accepted.plays.text (sym plays.accepted.plays.stands ∙ ap told (same_script words _ _ plays.accepted.plays.command accepted.plays.command) ∙ accepted.plays.stands) in
       let same_events = one_script accepted.plays.text plays.events events (subst (λ t. SpellsEvents t plays.events) same_text plays.accepted.plays.spells) accepted.plays.spells in
       (text, subst (λ es. IsOutput m es text) same_events (subst (λ n. IsOutput n plays.events text) same_module plays.printed), put)

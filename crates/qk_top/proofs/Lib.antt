@@ -1,4 +1,5 @@
-pub mod Refusals
+pub mod Accepted
+pub mod Stopped
 pub mod Ends
 pub mod Comings
 pub mod Readings
@@ -10,4 +11,3 @@ pub mod Commands
 pub mod Scripts
 pub mod Orders
 pub mod Usage
-pub mod Feeds

@@ -3,13 +3,10 @@ use Rattle.std.proofs.Common.{◌≡◌, ◌≤◌, ◌<◌, ℕ, Bool, true, fa
 use Rattle.std.specs.Prelude.{nat_lt, if◌then◌else◌}
 use Rattle.std.proofs.Common.{◌⊎◌, inl, inr}
 use Rattle.std.specs.Prelude.{Result, Ok, Err, IfOk, IfErr, IsErrOf}
-use Rattle.qk_ast.specs.declared.Module.{Module}
 use Rattle.qk_store.specs.Files.{Files}
 use Rattle.qk_top.specs.declared.stop.ScriptRefusal.TheVariants as scripts
-use Rattle.qk_top.specs.declared.stop.ApplicationRefusal.TheVariants as application
 use Rattle.qk_top.specs.declared.stop.Stop.{Stop}
 use Rattle.qk_top.specs.declared.stop.Stop.TheVariants.{Usage, Script, Application, StoreFailed, SinkFailed, Memory}
-use Rattle.qk_top.specs.Answers.{root_name}
 use Rattle.std.specs.declared.vec.Vec.{Vec}
 use Rattle.std.specs.declared.alloc.Global.{Global}
 use Rattle.qk_script.specs.declared.item.ScriptItem.{ScriptItem}
@@ -19,12 +16,7 @@ use Rattle.qk_script.specs.declared.fault.ScriptFault.TheVariants as fault
 use Rattle.qk_script.specs.Answer.{FirstWrong, HasTooMany, IsFaultOf}
 use Rattle.qk_top.specs.Stops.{script_kind}
 use Rattle.qk_top.specs.Script.{IsReadable, RefusedText, wrong_line, too_many}
-use Rattle.qk_top.specs.Sources.{TextComes, ScriptComes, SourceComes, IsRoot, stop_of}
-use Rattle.qk_ast.specs.declared.Form.TheVariants.{Source}
-use Rattle.qk_parse.specs.declared.parse.ParseFault.{ParseFault}
-use Rattle.qk_parse.specs.declared.parse.ParseFault.TheVariants as parse
-use Rattle.qk_parse.specs.Parsing.{Refused}
-use Rattle.qk_top.specs.Source.{too_long as too_long_source, lexical, syntax, too_deep}
+use Rattle.qk_top.specs.Sources.{TextComes, ScriptComes}
 use Rattle.qk_meaning.specs.Value.{Text}
 use Rattle.qk_store.specs.Answers.{gone, too_long, bytes, reading}
 
@@ -63,29 +55,6 @@ bytes_is (Some file) most read h = ap Some (sym (chosen_bytes (nat_lt most (leng
 
 pub not_some : {A : Type 0} (a : A) → None ≡ Some a → ⊥
 not_some a h = cc
-
--- what came of a source that stands
-pub root_came : (told : Files) (source : Text) (r : Result Module Stop) → told root_name ≡ Some source → SourceComes source r → IsRoot told r
-root_came told source (Ok m) stands h = (source, stands, h)
-root_came told source (Err Usage) stands h = absurd h
-root_came told source (Err (Script kind)) stands h = absurd h
-root_came told source (Err (Application application.RootMissing)) stands h = absurd h
-root_came told source (Err (Application application.TooLong)) stands h = (source, stands, h)
-root_came told source (Err (Application (application.Lexical place))) stands h = (source, stands, h)
-root_came told source (Err (Application (application.Syntax place))) stands h = (source, stands, h)
-root_came told source (Err (Application (application.TooDeep place))) stands h = (source, stands, h)
-root_came told source (Err (Application application.NotBuilt)) stands h = (source, stands, h)
-root_came told source (Err StoreFailed) stands h = absurd h
-root_came told source (Err SinkFailed) stands h = absurd h
-root_came told source (Err Memory) stands h = tt
-
--- what comes of a source that isn't parsed
-pub source_refused : (source : Text) (fault : ParseFault) → length source ≤ 1048576 → IsUtf8 source → Refused Source source fault → SourceComes source (Err (stop_of source fault))
-source_refused source parse.TooLong short utf8 h = too_long_source h
-source_refused source (parse.Lexical at) short utf8 h = lexical utf8 h
-source_refused source (parse.Syntax at) short utf8 h = syntax utf8 h
-source_refused source (parse.TooDeep at) short utf8 h = too_deep utf8 h
-source_refused source parse.Memory short utf8 h = tt
 
 -- what came of a script that stands
 pub script_came : (told : Files) (name text : Text) (r : Result (Vec ScriptItem Global) Stop) → told name ≡ Some text → TextComes text r → ScriptComes told name r

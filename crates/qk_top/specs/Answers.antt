@@ -1,8 +1,6 @@
 -- What the program answers: each status with its cause, and with all that is printed.
-use Rattle.std.specs.Prelude.{◌≡◌, ℕ, List, [], ◌++◌, Some, None, take, codes, map}
+use Rattle.std.specs.Prelude.{◌≡◌, ℕ, List, [], ◌∷◌, ◌++◌, Some, None, Ok, Err, take, codes, map}
 use Rattle.qk_ast.specs.declared.Module.{Module}
-use Rattle.qk_ast.specs.declared.Form.TheVariants.{Source}
-use Rattle.qk_ast.specs.Derives.{Derives}
 use Rattle.qk_first.specs.Shape.{HasFirstShape}
 use Rattle.qk_store.specs.Files.{Files}
 use Rattle.qk_meaning.specs.Value.{Text}
@@ -12,10 +10,10 @@ use Rattle.qk_meaning.specs.Output.{line, output}
 use Rattle.qk_first.specs.Laws.{application_of}
 use Rattle.qk_top.specs.Words.{IsReplay}
 use Rattle.qk_top.specs.Script.{SpellsEvents, RefusedText}
-use Rattle.qk_top.specs.Source.{RefusedSource}
-
-abbrev pub root_name : Text
-root_name = codes "root.jsx"
+use Rattle.qk_application.specs.declared.application.Application.{Application}
+use Rattle.qk_application.specs.declared.fault.ApplicationFault.{ApplicationFault}
+use Rattle.qk_application.specs.Accepting.{AcceptsOver}
+use Rattle.qk_top.specs.Saying.{Said, of_root, said_of, said_line}
 
 -- the words are no command
 abbrev pub IsUsage : List Text → Type 0
@@ -34,18 +32,31 @@ pub data RefusedScript (words : List Text) (told : Files) : Text → Type 0 wher
   gone_script : {script : Text} → IsReplay words script → told script ≡ None → RefusedScript words told (codes "ScriptMissing")
   refused_script : {script text kind : Text} → IsReplay words script → told script ≡ Some text → RefusedText text kind → RefusedScript words told kind
 
--- the application is refused as this kind, and this is said of it
-pub data RefusedApplication (words : List Text) (told : Files) : Text → Text → Type 0 where
-  gone_root : {events : List Event} → Plays words told events → told root_name ≡ None → RefusedApplication words told (codes "RootMissing") (codes "-")
-  refused_root : {events : List Event} {source kind what : Text} → Plays words told events → told root_name ≡ Some source → RefusedSource source kind what → RefusedApplication words told kind what
+-- ---- the application
 
--- the application is accepted: `root.jsx` derives this module, which has the first shape
+-- it has one module, which is this and has the first shape
+pub record IsPlayed (application : Application) (m : Module) : Type 0 where
+  pub alone : map (λ n. n.module) application.modules.list ≡ m ∷ []
+  pub shape : HasFirstShape m
+
+-- the application is accepted by all rules, and is this one module
 pub record IsAccepted (words : List Text) (told : Files) (m : Module) (events : List Event) : Type 0 where
   pub plays : Plays words told events
-  pub source : Text
-  pub stands : told root_name ≡ Some source
-  pub derives : Derives Source source m
-  pub shape : HasFirstShape m
+  pub application : Application
+  pub accepted : AcceptsOver told (Ok application)
+  pub one : IsPlayed application m
+
+-- the application of these files is refused, and this is said of it
+pub data Refuses (told : Files) : Said → Type 0 where
+  refused : {fault : ApplicationFault} {said : Said} → AcceptsOver told (Err fault) → said_of fault ≡ Some said → Refuses told said
+  -- all rules accept it, and it is none that is played yet
+  not_built : {application : Application} → AcceptsOver told (Ok application) → ((m : Module) → ¬ IsPlayed application m) → Refuses told (of_root (codes "NotBuilt"))
+
+-- a script is played, and the application is refused
+pub record RefusedApplication (words : List Text) (told : Files) (said : Said) : Type 0 where
+  pub events : List Event
+  pub plays : Plays words told events
+  pub refuses : Refuses told said
 
 -- what is printed of the run of the original module
 pub record IsOutput (m : Module) (events : List Event) (text : Text) : Type 0 where
@@ -62,7 +73,7 @@ pub data IsFront (words : List Text) (told : Files) : Text → Type 0 where
 pub data Answers (words : List Text) (told : Files) : ℕ → Text → Type 0 where
   played : {m : Module} {events : List Event} {text : Text} → IsAccepted words told m events → IsOutput m events text → Answers words told 0 text
   usage : IsUsage words → Answers words told 1 (line (codes "usage"))
-  application : {kind what : Text} → RefusedApplication words told kind what → Answers words told 2 (line (codes "refused " ++ (kind ++ (codes " root " ++ what))))
+  application : {said : Said} → RefusedApplication words told said → Answers words told 2 (said_line said)
   script : {kind : Text} → RefusedScript words told kind → Answers words told 5 (line (codes "refused " ++ kind))
   store_failed : Answers words told 6 (line (codes "store failed"))
   -- want of memory: a front of what would have been played, then the last line or nothing

@@ -3,8 +3,9 @@ pub mod Decimals
 pub mod Script
 pub mod Blocks
 pub mod Places
-pub mod Source
+pub mod Saying
 pub mod Answers
+pub mod Refusals
 pub mod Stops
 pub mod Sources
 pub mod Reads

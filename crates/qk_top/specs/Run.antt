@@ -7,6 +7,7 @@ use Rattle.qk_store.specs.Causes.{Rose}
 use Rattle.qk_meaning.specs.Value.{Text}
 use Rattle.qk_meaning.specs.Item.{Event}
 use Rattle.qk_meaning.specs.Output.{line}
+use Rattle.qk_top.specs.Saying.{Said, said_line}
 use Rattle.qk_top.specs.Answers.{RefusedScript, RefusedApplication, IsAccepted, IsOutput, Answers}
 use Rattle.qk_top.specs.Stops.{IsPut}
 
@@ -36,6 +37,11 @@ abbrev pub ScriptLine : List Text → Option Files → Option Text → Option Te
 ScriptLine words files before after status =
     (told : Files) (kind : Text) → files ≡ Some told → RefusedScript words told kind → status ≡ 5 → IsPut (line (codes "refused " ++ kind)) before after
 
+-- With status 2 the cause that holds of the application is printed.
+abbrev pub ApplicationLine : List Text → Option Files → Option Text → Option Text → ℕ → Type 0
+ApplicationLine words files before after status =
+    (told : Files) (said : Said) → files ≡ Some told → RefusedApplication words told said → status ≡ 2 → IsPut (said_line said) before after
+
 -- one of these statuses
 abbrev pub IsOneOf : ℕ → List ℕ → Type 0
 IsOneOf status [] = ⊥
@@ -44,5 +50,5 @@ IsOneOf status (s ∷ more) = (status ≡ s) ⊎ IsOneOf status more
 -- When each answer comes: where its cause holds, no status comes but its own, 6 and 7 of the outside, and 8 of memory.
 pub record Comes (words : List Text) (told : Files) (status : ℕ) : Type 0 where
   pub accepted : (m : Module) (events : List Event) → IsAccepted words told m events → IsOneOf status (0 ∷ 6 ∷ 7 ∷ 8 ∷ [])
-  pub application : (kind what : Text) → RefusedApplication words told kind what → IsOneOf status (2 ∷ 6 ∷ 7 ∷ 8 ∷ [])
+  pub application : (said : Said) → RefusedApplication words told said → IsOneOf status (2 ∷ 6 ∷ 7 ∷ 8 ∷ [])
   pub script : (kind : Text) → RefusedScript words told kind → IsOneOf status (5 ∷ 6 ∷ 7 ∷ 8 ∷ [])

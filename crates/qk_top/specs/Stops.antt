@@ -6,11 +6,10 @@ use Rattle.qk_store.specs.Pieces.{with_piece, AppendsFront}
 use Rattle.qk_meaning.specs.Value.{Text}
 use Rattle.qk_meaning.specs.Output.{line}
 use Rattle.qk_top.specs.Decimals.{count_text}
-use Rattle.qk_top.specs.Places.{place_text}
+use Rattle.qk_top.specs.Saying.{said_line}
+use Rattle.qk_top.specs.Refusals.{said_by}
 use Rattle.qk_top.specs.declared.stop.ScriptRefusal.{ScriptRefusal}
 use Rattle.qk_top.specs.declared.stop.ScriptRefusal.TheVariants as script
-use Rattle.qk_top.specs.declared.stop.ApplicationRefusal.{ApplicationRefusal}
-use Rattle.qk_top.specs.declared.stop.ApplicationRefusal.TheVariants as application
 use Rattle.qk_top.specs.declared.stop.Stop.{Stop}
 use Rattle.qk_top.specs.declared.stop.Stop.TheVariants.{Usage, Script, Application, StoreFailed, SinkFailed, Memory}
 
@@ -22,23 +21,6 @@ script_kind (script.Line number) = codes "ScriptLine " ++ count_text number
 script_kind script.TooMany = codes "ScriptTooMany"
 script_kind script.NotBuilt = codes "NotBuilt"
 
-abbrev pub application_kind : ApplicationRefusal → Text
-application_kind application.RootMissing = codes "RootMissing"
-application_kind application.TooLong = codes "TooLong"
-application_kind (application.Lexical place) = codes "Lexical"
-application_kind (application.Syntax place) = codes "Syntax"
-application_kind (application.TooDeep place) = codes "TooDeep"
-application_kind application.NotBuilt = codes "NotBuilt"
-
--- what is said of it
-abbrev pub application_what : ApplicationRefusal → Text
-application_what application.RootMissing = codes "-"
-application_what application.TooLong = codes "1:1"
-application_what (application.Lexical place) = place_text place.line place.column
-application_what (application.Syntax place) = place_text place.line place.column
-application_what (application.TooDeep place) = place_text place.line place.column
-application_what application.NotBuilt = codes "-"
-
 abbrev pub status_of : Stop → ℕ
 status_of Usage = 1
 status_of (Application _) = 2
@@ -49,7 +31,7 @@ status_of Memory = 8
 
 abbrev pub last_line_of : Stop → Text
 last_line_of Usage = line (codes "usage")
-last_line_of (Application kind) = line (codes "refused " ++ (application_kind kind ++ (codes " root " ++ application_what kind)))
+last_line_of (Application refusal) = said_line (said_by refusal)
 last_line_of (Script kind) = line (codes "refused " ++ script_kind kind)
 last_line_of StoreFailed = line (codes "store failed")
 last_line_of SinkFailed = []

@@ -6,7 +6,7 @@ ghost use Rattle.qk_meaning.specs.Output.{line};
 ghost use Rattle.qk_top.specs.Answers.{IsUsage};
 ghost use Rattle.qk_top.specs.Stops.{IsPut, PutsLastLine, Finishes};
 ghost use Rattle.qk_top.specs.Reads.{ReadsInOrder};
-ghost use Rattle.qk_top.specs.Run.{Headline, Complete, Printed, PrintedFront, Comes, ScriptLine, IsOneOf};
+ghost use Rattle.qk_top.specs.Run.{Headline, Complete, Printed, PrintedFront, Comes, ScriptLine, ApplicationLine, IsOneOf};
 
 use crate::replay::replay;
 use crate::stop::Stop;
@@ -16,8 +16,8 @@ use std::alloc::Global;
 /// Does all that the program does. `words` are the words after the program's name; what is printed is put into `out`, each block and each
 /// last line as one piece; the answer is the exit status.
 ///
-/// The words `replay SCRIPT` play the script on the application whose root module is the file `root.jsx` of the store, and print the block
-/// of each item. The statuses are 0 where all was played, 1 for words that are no command, 2 for an application that is refused, 5 for a
+/// The words `replay SCRIPT` play the script on the application whose root module is the file `root.jsx` of the store, where it keeps all rules, and
+/// print the block of each item. The statuses are 0 where all was played, 1 for words that are no command, 2 for an application that is refused, 5 for a
 /// script that is refused, 6 where a call of the store failed, 7 where a call of the sink failed, and 8 for want of memory.
 pub fn run<S: Store, K: Sink>(alloc: Global, words: &[String], store: &mut S, out: &mut K) -> u8
     ensures headline { Headline (map string_bytes words.now) (S.files store.old) (K.bytes out.old) (K.bytes out.new) result }
@@ -31,6 +31,7 @@ pub fn run<S: Store, K: Sink>(alloc: Global, words: &[String], store: &mut S, ou
     ensures usage_line { result ≡ 1 → IsPut (line (codes "usage")) (K.bytes out.old) (K.bytes out.new) }
     ensures usage_only { result ≡ 1 → IsUsage (map string_bytes words.now) }
     ensures script_line { ScriptLine (map string_bytes words.now) (S.files store.old) (K.bytes out.old) (K.bytes out.new) result }
+    ensures application_line { ApplicationLine (map string_bytes words.now) (S.files store.old) (K.bytes out.old) (K.bytes out.new) result }
     ensures statuses { IsOneOf result (0 ∷ 1 ∷ 2 ∷ 5 ∷ 6 ∷ 7 ∷ 8 ∷ []) }
 
     // A fault of the outside is answered only where its count rose; where one rose, no other status hides it.
@@ -41,7 +42,7 @@ pub fn run<S: Store, K: Sink>(alloc: Global, words: &[String], store: &mut S, ou
     ensures never_fall { (S.faults store.old ≤ S.faults store.new) × (K.faults out.old ≤ K.faults out.new) }
 
     ensures files { S.files store.new ≡ S.files store.old }
-    ensures order { ReadsInOrder (map string_bytes words.now) (S.answers store.old) (S.answers store.new) }
+    ensures order { ReadsInOrder (map string_bytes words.now) (S.files store.old) (S.answers store.old) (S.answers store.new) }
 {
     match replay(alloc, words, store, out) {
         Ok(()) => 0,
@@ -55,12 +56,12 @@ fn finish<K: Sink>(alloc: Global, stop: Stop, out: &mut K) -> u8
 {
     match stop {
         Stop::SinkFailed => 7,
-        _ => put_last_line(alloc, stop, out),
+        stop => put_last_line(alloc, &stop, out),
     }
 }
 
-fn put_last_line<K: Sink>(alloc: Global, stop: Stop, out: &mut K) -> u8
-    ensures { PutsLastLine stop (K.bytes out.old) (K.bytes out.new) (K.faults out.old) (K.faults out.new) result }
+fn put_last_line<K: Sink>(alloc: Global, stop: &Stop, out: &mut K) -> u8
+    ensures { PutsLastLine stop.now (K.bytes out.old) (K.bytes out.new) (K.faults out.old) (K.faults out.new) result }
 {
     let Ok(line) = stop.last_line(alloc) else {
         return 8;

@@ -4,12 +4,13 @@
 mod blocks;
 mod command;
 mod digits;
-mod place;
 mod play;
+mod refusal;
 mod replay;
 mod script;
 mod sources;
 mod stop;
+mod stopping;
 mod words;
 
 pub use command::run;

@@ -1,16 +1,21 @@
-ghost use Rattle.std.specs.Prelude.{◌≡◌, ◌≤◌, Some, map, length, string_bytes, IsErrOf, ◌↔◌, Err};
+ghost use Rattle.std.specs.Prelude.{◌≡◌, ◌≤◌, Some, [], ◌∷◌, map, length, string_bytes, IfSome, IfNone, IsErrOf, ◌↔◌, Err};
 ghost use Rattle.qk_script.specs.Answer.{event_of};
 ghost use Rattle.qk_top.specs.Stops.{EndsForFaults};
-ghost use Rattle.qk_top.specs.Answers.{root_name, IsUsage};
-ghost use Rattle.qk_top.specs.Coming.{RootComes, CommandComes};
-ghost use Rattle.qk_top.specs.Reads.{MayRead, ReadsInOrder};
+ghost use Rattle.qk_modules.specs.Gathering.{Gathers};
+ghost use Rattle.qk_first.specs.Kept.{IsCounterOf};
+ghost use Rattle.qk_top.specs.Answers.{IsUsage, IsPlayed};
+ghost use Rattle.qk_top.specs.Coming.{EventsCome, CommandComes};
+ghost use Rattle.qk_top.specs.Reads.{ReadsInOrder};
 
 use crate::play::play;
+use crate::refusal::Kind;
 use crate::script::events;
-use crate::sources::{read_root, read_script};
-use crate::stop::{ApplicationRefusal, ScriptRefusal, Stop};
+use crate::sources::{read_application, read_script};
+use crate::stop::{ScriptRefusal, Stop};
+use crate::stopping::refused_root;
 use crate::words::script_word;
-use qk_first::shape::first_counter;
+use qk_application::Application;
+use qk_first::shape::{Counter, first_counter};
 use qk_script::Event;
 use qk_store::{Sink, SinkFault, Store};
 use std::alloc::Global;
@@ -26,7 +31,7 @@ pub(crate) fn replay<S: Store, K: Sink>(
     ensures usage { (result ≡ Err Stop.Usage) ↔ IsUsage (map string_bytes words.now) }
     ensures unput { IsErrOf result Stop.Usage → K.bytes out.new ≡ K.bytes out.old }
     ensures files { S.files store.new ≡ S.files store.old }
-    ensures order { ReadsInOrder (map string_bytes words.now) (S.answers store.old) (S.answers store.new) }
+    ensures order { ReadsInOrder (map string_bytes words.now) (S.files store.old) (S.answers store.old) (S.answers store.new) }
     ensures store { EndsForFaults Stop.StoreFailed (S.faults store.old) (S.faults store.new) result }
     ensures sink { EndsForFaults Stop.SinkFailed (K.faults out.old) (K.faults out.new) result }
 {
@@ -49,20 +54,32 @@ fn replay_events<S: Store, K: Sink>(
     out: &mut K,
 ) -> Result<(), Stop>
     requires { length events.now ≤ 65536 }
-    ensures comes { (told : _) → S.files store.old ≡ Some told → RootComes told (map (λ e. event_of e.now) events.now) (K.bytes out.old) (K.bytes out.new) result }
+    ensures comes { (told : _) → S.files store.old ≡ Some told → EventsCome told (map (λ e. event_of e.now) events.now) (K.bytes out.old) (K.bytes out.new) result }
     ensures command { ¬ IsErrOf result Stop.Usage }
     ensures files { S.files store.new ≡ S.files store.old }
-    ensures reads { MayRead root_name (S.answers store.old) (S.answers store.new) }
+    ensures reads { (gathered : _) × Gathers (S.files store.old) (S.answers store.old) (S.answers store.new) gathered }
     ensures store { EndsForFaults Stop.StoreFailed (S.faults store.old) (S.faults store.new) result }
     ensures sink { EndsForFaults Stop.SinkFailed (K.faults out.old) (K.faults out.new) result }
 {
-    let root = read_root(alloc, store)?;
-    let Some(counter) = first_counter(&root) else {
-        return Err(Stop::Application(ApplicationRefusal::NotBuilt));
+    let application = read_application(alloc, store)?;
+    let Some(counter) = only_counter(&application) else {
+        return Err(refused_root(alloc, Kind::NotBuilt));
     };
     match play(alloc, &counter, events, out) {
         Ok(()) => Ok(()),
         Err(SinkFault::Failed) => Err(Stop::SinkFailed),
         Err(SinkFault::Memory) => Err(Stop::Memory),
+    }
+}
+
+/// The counter that is the only module of the application.
+fn only_counter(application: &Application) -> Option<Counter<'_>>
+    ensures some { IfSome result (λ kept. (m : _) × (map (λ n. n.module) application.now.modules.list ≡ m ∷ []) × IsCounterOf kept m) }
+    ensures none { IfNone result ((m : _) → ¬ IsPlayed application.now m) }
+{
+    match application.modules.list.as_slice() {
+        [] => None,
+        [root] => first_counter(&root.module),
+        [_, _, ..] => None,
     }
 }

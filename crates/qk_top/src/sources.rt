@@ -1,20 +1,19 @@
+//! What is read of the store.
+
 ghost use Rattle.std.specs.Prelude.{◌≡◌, ◌≤◌, Some, None, IfOk, OnErr, IfErr, IsErrOf, ◌⊎◌, length, map};
 ghost use Rattle.std.specs.Option.{option_map};
-ghost use Rattle.qk_ast.specs.Derives.{Derives};
-ghost use Rattle.qk_ast.specs.declared.Form.TheVariants.{Source};
 ghost use Rattle.qk_store.specs.Answers.{content, reading, with_answer, IsWithin, bytes as content_bytes};
 ghost use Rattle.qk_script.specs.Answer.{item_of};
 ghost use Rattle.qk_top.specs.Stops.{EndsForFaults};
 ghost use Rattle.qk_top.specs.Script.{SpellsItems};
-ghost use Rattle.qk_top.specs.Sources.{TextComes, ScriptComes, SourceComes, IsRoot, stop_of};
+ghost use Rattle.qk_modules.specs.Gathering.{Gathers};
+ghost use Rattle.qk_top.specs.Sources.{TextComes, ScriptComes, ApplicationComes};
 ghost use Rattle.qk_top.specs.Reads.{IsRead, MayRead};
-ghost use Rattle.qk_top.specs.Answers.{root_name};
 
-use crate::place::place_at;
-use crate::stop::{ApplicationRefusal, ScriptRefusal, Stop};
-use qk_ast::{Form, Module};
+use crate::stop::{ScriptRefusal, Stop};
+use crate::stopping::stop_for;
+use qk_application::{Application, accept};
 use qk_base::limits;
-use qk_parse::{ParseFault, parse_module};
 use qk_script::{ScriptFault, ScriptItem, parse_script};
 use qk_store::{Found, Store, StoreFault};
 use std::alloc::Global;
@@ -58,54 +57,18 @@ fn script_items(alloc: Global, text: &[u8]) -> Result<Vec<ScriptItem>, Stop>
     }
 }
 
-/// The module that `root.jsx` derives.
-pub(crate) fn read_root<S: Store>(alloc: Global, store: &mut S) -> Result<Module, Stop>
-    ensures found { (told : _) → S.files store.old ≡ Some told → IsRoot told result }
-    // Whether or not the store tells its files.
-    ensures derives { IfOk result (λ m. (source : _) × Derives Source source m) }
-    ensures reads { MayRead root_name (S.answers store.old) (S.answers store.new) }
+/// The application of the store, which keeps all rules.
+pub(crate) fn read_application<S: Store>(alloc: Global, store: &mut S) -> Result<Application, Stop>
+    ensures found { (told : _) → S.files store.old ≡ Some told → ApplicationComes told result }
+    ensures reads { (gathered : _) × Gathers (S.files store.old) (S.answers store.old) (S.answers store.new) gathered }
     ensures files { S.files store.new ≡ S.files store.old }
     ensures cause { EndsForFaults Stop.StoreFailed (S.faults store.old) (S.faults store.new) result }
     ensures sink { ¬ IsErrOf result Stop.SinkFailed }
     ensures command { ¬ IsErrOf result Stop.Usage }
 {
-    match read_file(store, "root.jsx", limits::MODULE_BYTES)? {
-        Found::Gone => Err(Stop::Application(ApplicationRefusal::RootMissing)),
-        Found::TooLong => Err(Stop::Application(ApplicationRefusal::TooLong)),
-        Found::Bytes(bytes) => source_module(alloc, bytes.as_slice()),
-    }
-}
-
-/// The module that a source derives.
-fn source_module(alloc: Global, source: &[u8]) -> Result<Module, Stop>
-    requires { length source.now ≤ 1048576 }
-    ensures { SourceComes source.now result }
-{
-    let Ok(text) = from_utf8(source) else {
-        return Err(Stop::Application(ApplicationRefusal::NotBuilt));
-    };
-    match parse_module(alloc, text, Form::Source) {
-        Ok(module) => Ok(module),
-        Err(fault) => Err(refusal(source, fault)),
-    }
-}
-
-/// Why a source that isn't parsed stops the command.
-fn refusal(source: &[u8], fault: ParseFault) -> Stop
-    ensures { result ≡ stop_of source.now fault }
-{
-    match fault {
-        ParseFault::TooLong => Stop::Application(ApplicationRefusal::TooLong),
-        ParseFault::Lexical { at } => {
-            Stop::Application(ApplicationRefusal::Lexical(place_at(source, at)))
-        }
-        ParseFault::Syntax { at } => {
-            Stop::Application(ApplicationRefusal::Syntax(place_at(source, at)))
-        }
-        ParseFault::TooDeep { at } => {
-            Stop::Application(ApplicationRefusal::TooDeep(place_at(source, at)))
-        }
-        ParseFault::Memory => Stop::Memory,
+    match accept(alloc, store) {
+        Ok(application) => Ok(application),
+        Err(fault) => Err(stop_for(alloc, fault)),
     }
 }
 

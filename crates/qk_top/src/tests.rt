@@ -282,14 +282,17 @@ fn tells_why_a_source_is_refused(rt: HostRuntime) -> Result<(), Fail> {
             b"// \xc3\xa4\r\n\t\xc3\xa4 =".as_slice(),
             "refused Syntax root 2:2\n",
         ),
-        (b"const a = 1;\n".as_slice(), "refused NotBuilt root -\n"),
+        (
+            b"const a = 1;\n".as_slice(),
+            "refused ExportMissing root App\n",
+        ),
         (
             b"const a = \"\xff\";".as_slice(),
-            "refused NotBuilt root -\n",
+            "refused NotUtf8 root -\n",
         ),
         (
             b"const a = ((((((((((((((((((((((((((((((((1))))))))))))))))))))))))))))))));".as_slice(),
-            "refused NotBuilt root -\n",
+            "refused ExportMissing root App\n",
         ),
         (
             b"const a = (((((((((((((((((((((((((((((((((1)))))))))))))))))))))))))))))))));".as_slice(),
@@ -303,6 +306,70 @@ fn tells_why_a_source_is_refused(rt: HostRuntime) -> Result<(), Fail> {
     Ok(())
 }
 
+/// What `replay s.txt` prints where `root.jsx` has the import of every name and this behind it, `x.jsx` declares `Y`, and the script is empty.
+fn ruled(alloc: Global, root: &str) -> Result<(MemSink, u8), AllocError> {
+    let mut files = files(alloc, root, b"")?;
+    files.push(file(alloc, "x.jsx", &["const Y = 1;"])?)?;
+    let mut store = MemStore::new(alloc, files, Vec::new(alloc));
+    let mut out = MemSink::new(alloc, Vec::new(alloc));
+    let status = replay(alloc, &mut store, &mut out)?;
+    Ok((out, status))
+}
+
+#[test]
+fn tells_which_rule_an_application_breaks(rt: HostRuntime) -> Result<(), Fail> {
+    let alloc = rt.alloc();
+    for (root, prints) in [
+        (
+            "import { Z } from \"./z.jsx\";",
+            "ImportMissing root ./z.jsx",
+        ),
+        ("import { X } from \"./x.jsx\";", "ExportMissing root X"),
+        ("", "ExportMissing root App"),
+        ("export const App = 1;", "NotComponent root App"),
+        (
+            "export const App = component$(1);",
+            "DollarArgument root component$",
+        ),
+        (
+            "export const App = component$(() => { if (true) { useSignal(0); } return <p/>; });",
+            "HookPlace root useSignal",
+        ),
+        (
+            "export const App = component$(() => { return <title/>; });",
+            "TagRefused root title",
+        ),
+        (
+            "export const App = component$(() => { return <p>{x}</p>; });",
+            "UnknownName root x",
+        ),
+        (
+            "export const App = component$(() => { let n = 0; return <p id=\"p\" onClick$={() => { n = 1; }}/>; });",
+            "LetCaptured root n",
+        ),
+        (
+            "export const App = component$(() => { const f = () => k; const k = 1; return <p>{f()}</p>; });",
+            "EarlyUse root k",
+        ),
+        // The rules of names are tried before those of places.
+        (
+            "export const App = component$(() => { return <title>{x}</title>; });",
+            "UnknownName root x",
+        ),
+        // All rules accept it, and it isn't played yet.
+        (
+            "export const App = component$(() => <b/>);",
+            "NotBuilt root -",
+        ),
+    ] {
+        let (out, status) = ruled(alloc, root)?;
+        let line = format!(in alloc; "refused {prints}\n")?;
+        assert_eq!(rt; out.bytes(), line.as_bytes(), "{root}");
+        assert_eq!(rt; status, 2, "{root}");
+    }
+    Ok(())
+}
+
 #[test]
 fn tries_the_length_of_a_source(rt: HostRuntime) -> Result<(), Fail> {
     let alloc = rt.alloc();
@@ -311,7 +378,7 @@ fn tries_the_length_of_a_source(rt: HostRuntime) -> Result<(), Fail> {
         root.push(b' ')?;
     }
     let (out, status) = refusal(alloc, root.as_slice())?;
-    assert_eq!(rt; out.bytes(), b"refused NotBuilt root -\n".as_slice());
+    assert_eq!(rt; out.bytes(), b"refused ExportMissing root App\n".as_slice());
     assert_eq!(rt; status, 2);
     root.push(b' ')?;
     let (out, status) = refusal(alloc, root.as_slice())?;

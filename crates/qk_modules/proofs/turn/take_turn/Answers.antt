@@ -27,7 +27,7 @@ returns-in-Ok-TooLong-clause-turns g c =
     read_long (g.S.Store.files c.args.store.now) (g.S.Store.answers c.args.store.now) c.args.modules.now c.args.source.now
     (g.S.Store.answers c.read_file.new.store) c.in_ok-name.name (content c.in-Ok-TooLong.field-0)
     (ap Some c.in_ok-name.ensures ∙ subst (λ t. Some c.in-Some.name.now ≡ named_by t) c.as_str.ensures c.in-Some.ensures) c.in-Ok-TooLong.ensures.answered c.in-Ok-TooLong.ensures.found
-    c.unparsed.result (ap content c.in-Ok-TooLong.field-0-is) c.unparsed.ensures
+    c.too_long.result (ap content c.in-Ok-TooLong.field-0-is) c.too_long.ensures
 
 pub returns-in-Ok-Bytes-clause-turns : goal.returns-in-Ok-Bytes-clause-turns
 returns-in-Ok-Bytes-clause-turns g c =

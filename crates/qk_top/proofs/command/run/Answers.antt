@@ -1,5 +1,5 @@
 use Rattle.std.proofs.Common.{ap, Err}
-use Rattle.qk_top.proofs.Ends.{script_line_put, printed_whole, printed_front, comes_played, comes_ended, complete_ended, headline_played}
+use Rattle.qk_top.proofs.Ends.{script_line_put, application_line_put, printed_whole, printed_front, comes_played, comes_ended, complete_ended, headline_played}
 use Rattle.qk_top.proofs.Usage.{usage_put}
 use Rattle.qk_top.specs.Answers.{played}
 use Rattle.qk_top.proofs.command.run.Goals as goal
@@ -35,3 +35,6 @@ returns-in-Err-clause-usage_line g c one = usage_put _ _ _ _ _ _ _ c.finish.ensu
 
 pub returns-in-Err-clause-script_line : goal.returns-in-Err-clause-script_line
 returns-in-Err-clause-script_line g c told kind e refused five = script_line_put _ told _ _ _ _ _ _ _ kind (c.in-Err.ensures.comes told e) c.finish.ensures refused five
+
+pub returns-in-Err-clause-application_line : goal.returns-in-Err-clause-application_line
+returns-in-Err-clause-application_line g c told said e refused two = application_line_put _ told _ _ _ _ _ _ _ said (c.in-Err.ensures.comes told e) c.finish.ensures refused two

@@ -6,8 +6,8 @@ use Rattle.qk_script.specs.Answer.{event_of, item_of}
 use Rattle.qk_top.specs.Answers.{refused_script}
 use Rattle.qk_top.specs.Script.{with_pause}
 use Rattle.qk_top.proofs.Scripts.{few_events}
-use Rattle.qk_top.proofs.Comings.{script_ended, spells_events, plays_events, root_ended}
-use Rattle.qk_top.proofs.Orders.{script_alone, script_and_root}
+use Rattle.qk_top.proofs.Comings.{script_ended, spells_events, plays_events, events_ended}
+use Rattle.qk_top.proofs.Orders.{script_alone, script_and_modules}
 use Rattle.qk_top.proofs.replay.replay.Goals as goal
 
 pub returns-in_err-items-clause-comes : goal.returns-in_err-items-clause-comes
@@ -27,7 +27,7 @@ returns-in-Ok-Some-clause-comes g c told e =
     let items_are = ap (map item_of) (sym c.as_slice.ensures.value) ∙ happened in
     let lent = ap (map (λ e. event_of e.now)) c.as_slice-in-Ok-Some.ensures.value in
     let found = c.in_ok-items.ensures.found told e in
-    root_ended _ told _ _ _ _ (plays_events _ told _ found.0 _ _ _ c.in-Some.ensures.some found.1 found.2 items_are lent) (c.replay_events.ensures.comes told (c.in_ok-items.ensures.files ∙ e))
+    events_ended _ told _ _ _ _ (plays_events _ told _ found.0 _ _ _ c.in-Some.ensures.some found.1 found.2 items_are lent) (c.replay_events.ensures.comes told (c.in_ok-items.ensures.files ∙ e))
 
 pub returns-in-Ok-None-clause-comes : goal.returns-in-Ok-None-clause-comes
 returns-in-Ok-None-clause-comes g c told e =
@@ -36,7 +36,7 @@ returns-in-Ok-None-clause-comes g c told e =
     (refused_script c.in-Some.ensures.some found.1 (with_pause found.2 (subst (λ items. Contains (map item_of items) Pauses) c.as_slice.ensures.value pauses)), refl)
 
 pub returns-in_err-items-clause-order : goal.returns-in_err-items-clause-order
-returns-in_err-items-clause-order g c = script_alone _ _ _ _ c.in-Some.ensures.some c.in_err-items.ensures.reads
+returns-in_err-items-clause-order g c = script_alone _ _ _ _ _ c.in-Some.ensures.some c.in_err-items.ensures.reads
 
 pub returns-in-Ok-Some-clause-order : goal.returns-in-Ok-Some-clause-order
 returns-in-Ok-Some-clause-order g c =
@@ -44,10 +44,10 @@ returns-in-Ok-Some-clause-order g c =
     let items_are = ap (map item_of) (sym c.as_slice.ensures.value) ∙ happened in
     let lent = ap (map (λ e. event_of e.now)) c.as_slice-in-Ok-Some.ensures.value in
     let read = c.in_ok-items.ensures.read in
-    script_and_root _ _ read.0 _ _ _ _ c.in-Some.ensures.some (spells_events read.0 _ _ _ read.1 items_are lent) read.2 c.replay_events.ensures.reads
+    script_and_modules _ _ _ _ read.0 _ _ _ _ c.in-Some.ensures.some (spells_events read.0 _ _ _ read.1 items_are lent) read.2 c.in_ok-items.ensures.files c.replay_events.ensures.reads
 
 pub returns-in-Ok-None-clause-order : goal.returns-in-Ok-None-clause-order
-returns-in-Ok-None-clause-order g c = script_alone _ _ _ _ c.in-Some.ensures.some c.in_ok-items.ensures.reads
+returns-in-Ok-None-clause-order g c = script_alone _ _ _ _ _ c.in-Some.ensures.some c.in_ok-items.ensures.reads
 
 pub returns-clause-order : goal.returns-clause-order
-returns-clause-order g c = script_alone _ _ _ _ c.in-Some.ensures.some c.in_ok-items.ensures.reads
+returns-clause-order g c = script_alone _ _ _ _ _ c.in-Some.ensures.some c.in_ok-items.ensures.reads

@@ -1,0 +1,6 @@
+pub mod Examples
+pub mod Scopes
+pub mod Once
+pub mod Alike
+pub mod Walks
+pub mod Numbers

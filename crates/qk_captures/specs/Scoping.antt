@@ -1,0 +1,51 @@
+-- The names in scope as the walk keeps them: all that were entered, each once, and apart from them whether `track` is in scope.
+use Rattle.std.specs.Prelude.{Bool, true, false, ◌||◌, List, [], ◌∷◌, codes, length, take, flat_map}
+use Rattle.qk_ast.specs.declared.Pattern.{Pattern}
+use Rattle.qk_ast.specs.declared.Stmt.{Stmt}
+use Rattle.qk_ast.specs.Texts.{Text, same_text}
+use Rattle.qk_ast.specs.Names.{others_than, patterns_names, declared_by}
+use Rattle.qk_ast.specs.Arrows as arrows
+use Rattle.qk_ast.specs.Walking.{with_name}
+use Rattle.qk_captures.specs.declared.scope.Scope.{Scope}
+use Rattle.qk_captures.specs.declared.scope.Outside.{Outside}
+
+-- whether an arrow with this mark is a dollar arrow
+abbrev pub is_dollar_mark : arrows.Mark → Bool
+is_dollar_mark mark = elim mark [ arrows.Unmarked ↦ false | _ ↦ true ]
+
+abbrev pub track : Text
+track = codes "track"
+
+abbrev pub shown : (track_shown : Bool) → List Text → List Text
+shown true names = track ∷ names
+shown false names = others_than (track ∷ []) names
+
+-- the names that are in scope
+abbrev pub in_scope : Scope → List Text
+in_scope s = shown s.track s.names
+
+-- with one name more
+abbrev pub with_one : Text → Scope → Scope
+with_one name s = record { names = with_name s.names name; track = s.track || same_text name track }
+
+-- with the names of an inner scope
+unfoldable pub with_all : List Text → Scope → Scope
+with_all [] s = s
+with_all (name ∷ rest) s = with_all rest (with_one name s)
+
+-- inside an arrow; a task with a parameter hides `track`, and has no name of its own
+abbrev pub inside_arrow : arrows.Mark → List Pattern → Scope → Scope
+inside_arrow arrows.Tasked (p ∷ rest) s = record { names = s.names; track = false }
+inside_arrow mark params s = with_all (patterns_names params) s
+
+-- the names that statements declare in their block
+abbrev pub block_names : List Stmt → List Text
+block_names statements = flat_map declared_by statements
+
+-- what is remembered of a scope when an inner one is entered
+abbrev pub outside_of : Scope → Outside
+outside_of s = record { names = length s.names; track = s.track }
+
+-- back from the inner scope
+abbrev pub back_to : Outside → Scope → Scope
+back_to outside s = record { names = take outside.names s.names; track = outside.track }

@@ -1,0 +1,4 @@
+pub mod Dollars
+pub mod Names
+pub mod Declarations
+pub mod Behind

@@ -1,0 +1,23 @@
+mod Bits
+mod Each
+mod Members
+mod Numbered
+mod Counting
+mod Rising
+mod Nested
+mod Insides
+mod Literals
+mod Components
+mod Untaken
+mod Tasks
+mod Plain
+mod Listed
+mod Known
+mod UsesKnown
+mod Covered
+mod Captured
+mod Captures
+mod PlainArrows
+mod Items
+mod Accepted
+pub mod Laws

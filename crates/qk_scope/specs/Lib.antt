@@ -1,0 +1,4 @@
+pub mod Answering
+pub mod Parts
+pub mod Resolving
+pub mod RootNames

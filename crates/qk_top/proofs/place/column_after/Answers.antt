@@ -1,6 +1,0 @@
-use Rattle.std.proofs.Common.{sym, arith}
-use Rattle.qk_top.proofs.Feeds.{column_start}
-use Rattle.qk_top.proofs.place.column_after.Goals as goal
-
-pub loop-rest-init : goal.loop-rest-init
-loop-rest-init c = (sym (column_start c.args.front.now), omega arith)
