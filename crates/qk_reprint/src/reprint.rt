@@ -1,7 +1,8 @@
 #![tactic(auto, using(crate::proofs::Found::of_file))]
 
 ghost use Rattle.std.specs.Prelude.{◌≡◌, Some, OnOk};
-ghost use Rattle.qk_reprint.specs.Reprinting.{Reprints, IsPrinted};
+ghost use Rattle.qk_print.specs.Printing.{print_text};
+ghost use Rattle.qk_reprint.specs.Reprinting.{Reprints, IsPrinted, IsPut};
 
 use qk_ast::{Form, Module};
 use qk_base::limits;
@@ -67,9 +68,6 @@ fn reprint_source<K: Sink>(alloc: Global, source: &[u8], out: &mut K) -> Result<
 
 /// Prints the module.
 fn print<K: Sink>(alloc: Global, m: &Module, out: &mut K) -> Result<(), Stop>
-    ghost use Rattle.qk_print.specs.Printing.{print_text};
-    ghost use Rattle.qk_reprint.specs.Reprinting.{IsPut};
-
     ensures { OnOk result (IsPut (print_text m.now) (K.bytes out.old) (K.bytes out.new)) }
 {
     let mut text = Vec::new(alloc);
