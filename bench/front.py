@@ -34,7 +34,12 @@ const PageNN = component$(() => {
       }}>{labelsNN.add}</button>
       <ul>{st.items.map((t) => <li class={classes(t)} key={t.id}><ItemNN todo={t} /></li>)}</ul>
       <p>{left.value} {labelsNN.left}</p>
-      <footer><a href="/all">All</a><a href="/active">Active</a><a href="/done">{labelsNN.clear}</a></footer>
+      <footer>
+        <p>{`${left.value} of ${st.items.length} ${labelsNN.left}`}</p>
+        <a class={st.shown === "all" ? "chosen" : "other"} href="/all">All</a>
+        <a class={st.shown === "active" ? "chosen" : "other"} href="/active">Active</a>
+        <a class={st.shown === "done" ? "chosen" : "other"} href="/done">{labelsNN.clear}</a>
+      </footer>
     </main>
   );
 });
