@@ -3,9 +3,9 @@
 
 An application is played with an empty script; it keeps all rules and is then refused as not yet played. Beside it stands the same one whose `App`
 isn't exported, which is refused when all modules are read and parsed, before the first rule of names. So what the rules cost is the difference.
-Once one module grows to 1 MiB, once modules of 4 KiB grow to 256. Each figure is the best of many runs of the whole process, less its start (no
-application). `rules / parsing` is to be 1 at most; `growth` is that of the row over the row before, 4.0 being linear."""
-import os, subprocess, tempfile, time
+Once one module grows to 1 MiB, once modules of 4 KiB grow to 256. Each figure is the least processor time of many runs of the whole process, less its
+start (no application). `rules / parsing` is to be 1 at most; `growth` is that of the row over the row before, 4.0 being linear."""
+import os, subprocess, tempfile
 
 top = os.path.dirname(os.path.dirname(os.path.abspath(__file__)))
 program = os.path.join(top, "crates", "qwk", "out", "qwk")
@@ -83,9 +83,13 @@ def many_modules(count):
 
 
 def run(folder):
-    begin = time.perf_counter()
-    done = subprocess.run([program, "replay", "s"], cwd=folder, capture_output=True)
-    return time.perf_counter() - begin, done.stdout.decode().strip()
+    """The processor seconds of a run, and what it answers."""
+    with tempfile.TemporaryFile() as out:
+        child = subprocess.Popen([program, "replay", "s"], cwd=folder, stdout=out)
+        _, _, used = os.wait4(child.pid, 0)
+        child.returncode = 0
+        out.seek(0)
+        return used.ru_utime + used.ru_stime, out.read().decode().strip()
 
 
 def best(files, wanted, runs=15):

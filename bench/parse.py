@@ -3,9 +3,9 @@
 
 ours      `qk_reprint root.jsx`: reads the file, parses it and prints the module as built files have it, the output thrown away
 esbuild   `esbuild --jsx=preserve --loader:.jsx=jsx`, one thread, its output thrown away
-Each figure is the best of many runs of the whole process. `growth` is the time of the row over that of the row before, less the start of the
+Each figure is the least processor time of many runs of the whole process. `growth` is the time of the row over that of the row before, less the start of the
 process (an empty module); 4.0 is linear. `memory` is the greatest resident size less that of an empty module, in bytes a byte of text."""
-import os, shutil, subprocess, tempfile, time
+import os, shutil, subprocess, tempfile
 
 top = os.path.dirname(os.path.dirname(os.path.abspath(__file__)))
 crate = os.path.join(top, "crates", "qk_reprint")
@@ -57,13 +57,12 @@ def module(size):
 
 
 def run(command, folder):
-    """The seconds of a run, and its greatest resident size in KiB."""
-    begin = time.perf_counter()
+    """The processor seconds of a run, and its greatest resident size in KiB."""
     child = subprocess.Popen(command, cwd=folder, stdout=subprocess.DEVNULL, stderr=subprocess.DEVNULL,
                              env={**os.environ, "GOMAXPROCS": "1"})
     _, _, used = os.wait4(child.pid, 0)
     child.returncode = 0
-    return time.perf_counter() - begin, used.ru_maxrss
+    return used.ru_utime + used.ru_stime, used.ru_maxrss
 
 
 def best(command, folder, runs=20):
