@@ -5,7 +5,10 @@ An application is played with an empty script; it keeps all rules and is then re
 isn't exported, which is refused when all modules are read and parsed, before the first rule of names. So what the rules cost is the difference.
 Once one module grows to 1 MiB, once modules of 4 KiB grow to 256. Each figure is the least processor time of many runs of the whole process, less its
 start (no application). `rules / parsing` is to be 1 at most; `growth` is that of the row over the row before, 4.0 being linear."""
-import os, subprocess, tempfile
+import os, subprocess, sys, tempfile
+
+sys.dont_write_bytecode = True
+from pages import pages
 
 top = os.path.dirname(os.path.dirname(os.path.abspath(__file__)))
 program = os.path.join(top, "crates", "qwk", "out", "qwk")
@@ -54,19 +57,8 @@ const ItemNN = component$((props) => (
 """
 
 
-def pages(size):
-    """Pages with new names, up to that many bytes."""
-    parts, length, number = [], 0, 0
-    while length + len(PAGE) + 24 <= size:
-        page = PAGE.replace("NN", str(number))
-        parts.append(page)
-        length += len(page)
-        number += 1
-    return "".join(parts)
-
-
 def one_module(size):
-    return {"root.jsx": IMPORT + APP + pages(size - len(IMPORT) - len(APP))}
+    return {"root.jsx": IMPORT + APP + pages(PAGE, size - len(IMPORT) - len(APP))}
 
 
 def many_modules(count):
@@ -76,7 +68,7 @@ def many_modules(count):
         name = "root" if number == 0 else f"m{number}"
         nearest = f'import {{ Page0 as_ }} from "./m{number + 1}.jsx";\n'.replace(" as_", "") if number + 1 < count else ""
         head = IMPORT + (APP if number == 0 else "")
-        text = pages(4096 - len(head) - len(nearest))
+        text = pages(PAGE, 4096 - len(head) - len(nearest))
         text = text.replace("const Page0 =", "export const Page0 =") if number else text.replace("Page0", "PageRoot")
         files[name + ".jsx"] = nearest.replace("Page0", f"Page{number}x") + head + text.replace("Page0", f"Page{number - 1}x")
     return files

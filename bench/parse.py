@@ -5,7 +5,10 @@ ours      `qk_reprint root.jsx`: reads the file, parses it and prints the module
 esbuild   `esbuild --jsx=preserve --loader:.jsx=jsx`, one thread, its output thrown away
 Each figure is the least processor time of many runs of the whole process. `growth` is the time of the row over that of the row before, less the start of the
 process (an empty module); 4.0 is linear. `memory` is the greatest resident size less that of an empty module, in bytes a byte of text."""
-import os, shutil, subprocess, tempfile
+import os, shutil, subprocess, sys, tempfile
+
+sys.dont_write_bytecode = True
+from pages import pages
 
 top = os.path.dirname(os.path.dirname(os.path.abspath(__file__)))
 crate = os.path.join(top, "crates", "qk_reprint")
@@ -46,14 +49,8 @@ export const ItemNN = component$((props) => (
 
 
 def module(size):
-    """Pages with new names, up to that many bytes."""
-    parts, length, number = [IMPORT], len(IMPORT), 0
-    while length + len(PAGE) + 8 <= size:
-        page = PAGE.replace("NN", str(number))
-        parts.append(page)
-        length += len(page)
-        number += 1
-    return "".join(parts)
+    """Pages up to that many bytes."""
+    return IMPORT + pages(PAGE, size - len(IMPORT))
 
 
 def run(command, folder):
