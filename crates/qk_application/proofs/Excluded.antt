@@ -6,15 +6,14 @@ use Rattle.qk_store.specs.Files.{Files}
 use Rattle.qk_store.specs.Answers.{Answer}
 use Rattle.qk_modules.specs.declared.modules.Modules.{Modules}
 use Rattle.qk_modules.specs.declared.fault.GatherFault.{GatherFault}
-use Rattle.qk_modules.specs.declared.fault.GatherFault.TheVariants.{Memory}
 use Rattle.qk_modules.specs.Gathering.{GathersOver}
 use Rattle.qk_modules.specs.Laws as gathering
 use Rattle.qk_modules.proofs.Excluded.{one_gathering, gathered_or_refused, gathers_over}
 use Rattle.qk_modules.proofs.OneFault.{one_fault}
 use Rattle.qk_application.specs.declared.application.Application.{Application}
 use Rattle.qk_application.specs.declared.fault.ApplicationFault.{ApplicationFault}
-use Rattle.qk_application.specs.declared.fault.ApplicationFault.TheVariants.{Gathering, Naming, Placing}
-use Rattle.qk_application.specs.Accepting.{Judges, misnamed, misplaced, want, breaches_of, application_of, Decides, Accepts, AcceptsOver}
+use Rattle.qk_application.specs.declared.fault.ApplicationFault.TheVariants.{Naming, Placing, Memory}
+use Rattle.qk_application.specs.Accepting.{Judges, misnamed, misplaced, want, fault_of, breaches_of, application_of, Decides, Accepts, AcceptsOver}
 use Rattle.qk_application.specs.Laws.{IsFailure, OneApplication, AcceptedOrRefused, OneRefusal}
 use Rattle.qk_application.proofs.Judged.{none_broken}
 
@@ -30,7 +29,7 @@ none_first b rest h = cc
 
 pub accepted_is : (gathered : Result Modules GatherFault) (a : Application) → Decides gathered (Ok a) → (modules : Modules) × (gathered ≡ Ok modules) × (breaches_of modules ≡ []) × (a ≡ application_of modules)
 accepted_is (Ok modules) a h = let is = none_broken a h in (modules, refl, is.0, is.1)
-accepted_is (Err fault) a h = absurd (no_fault a (Gathering fault) h)
+accepted_is (Err fault) a h = absurd (no_fault a (fault_of fault) h)
 
 pub one_application : OneApplication
 one_application files a b x y =
@@ -45,15 +44,15 @@ only_want modules fault none (misnamed e) = absurd (none_first _ _ (sym none ∙
 only_want modules fault none (misplaced e) = absurd (none_first _ _ (sym none ∙ e))
 only_want modules fault none want = inr refl
 
-of_gathering : (fault : ApplicationFault) (why : GatherFault) → fault ≡ Gathering why → gathering.IsFailure why → IsFailure fault
-of_gathering fault why e (inl failed) = inl (e ∙ ap Gathering failed)
-of_gathering fault why e (inr wanting) = inr (e ∙ ap Gathering wanting)
+of_gathering : (fault : ApplicationFault) (why : GatherFault) → fault ≡ fault_of why → gathering.IsFailure why → IsFailure fault
+of_gathering fault why e (inl failed) = inl (e ∙ ap fault_of failed)
+of_gathering fault why e (inr wanting) = inr (e ∙ ap fault_of wanting)
 
 refused_is : (files : Files) (modules : Modules) (gathered : Result Modules GatherFault) (fault : ApplicationFault) → GathersOver files (Ok modules) → breaches_of modules ≡ [] → GathersOver files gathered → Decides gathered (Err fault) → IsFailure fault
 refused_is files modules (Ok others) fault gathers none over h =
     let same = one_gathering files modules others gathers over in
     only_want others fault (subst (λ m. breaches_of m ≡ []) same none) h
-refused_is files modules (Err why) fault gathers none over h = of_gathering fault why (same_fault fault (Gathering why) h) (gathered_or_refused files modules why gathers over)
+refused_is files modules (Err why) fault gathers none over h = of_gathering fault why (same_fault fault (fault_of why) h) (gathered_or_refused files modules why gathers over)
 
 pub accepted_or_refused : AcceptedOrRefused
 accepted_or_refused files a fault x y =
@@ -64,7 +63,7 @@ accepted_or_refused files a fault x y =
 
 -- the refusal for the first of these
 first_of : List Breach → ApplicationFault
-first_of [] = Gathering Memory
+first_of [] = Memory
 first_of (Of_names m b ∷ rest) = Naming m b.kind b.name
 first_of (Of_places m b ∷ rest) = Placing m b.kind b.name
 
@@ -75,7 +74,7 @@ is_first breaches value fault (misplaced e) own = ap first_of (sym e)
 is_first breaches value fault want own = absurd (own (inr refl))
 
 -- a fault of gathering is one's own where the application's is
-own_gathering : (fault : ApplicationFault) (why : GatherFault) → fault ≡ Gathering why → ¬ IsFailure fault → ¬ gathering.IsFailure why
+own_gathering : (fault : ApplicationFault) (why : GatherFault) → fault ≡ fault_of why → ¬ IsFailure fault → ¬ gathering.IsFailure why
 own_gathering fault why e own failure = own (of_gathering fault why e failure)
 
 by_gathered : (files : Files) (x y : Result Modules GatherFault) (f g : ApplicationFault) → GathersOver files x → GathersOver files y → Decides x (Err f) → Decides y (Err g) → ¬ IsFailure f → ¬ IsFailure g → f ≡ g
@@ -84,13 +83,13 @@ by_gathered files (Ok a) (Ok b) f g x y h k own other =
     ∙ ap (λ m. first_of (breaches_of m)) (one_gathering files a b x y)
     ∙ sym (is_first (breaches_of b) (application_of b) g k other)
 by_gathered files (Ok a) (Err why) f g x y h k own other =
-    absurd (own_gathering g why (same_fault g (Gathering why) k) other (gathered_or_refused files a why x y))
+    absurd (own_gathering g why (same_fault g (fault_of why) k) other (gathered_or_refused files a why x y))
 by_gathered files (Err why) (Ok b) f g x y h k own other =
-    absurd (own_gathering f why (same_fault f (Gathering why) h) own (gathered_or_refused files b why y x))
+    absurd (own_gathering f why (same_fault f (fault_of why) h) own (gathered_or_refused files b why y x))
 by_gathered files (Err why) (Err again) f g x y h k own other =
-    let e = same_fault f (Gathering why) h in
-    let d = same_fault g (Gathering again) k in
-    e ∙ ap Gathering (one_fault files why again x y (own_gathering f why e own) (own_gathering g again d other)) ∙ sym d
+    let e = same_fault f (fault_of why) h in
+    let d = same_fault g (fault_of again) k in
+    e ∙ ap fault_of (one_fault files why again x y (own_gathering f why e own) (own_gathering g again d other)) ∙ sym d
 
 pub one_refusal : OneRefusal
 one_refusal files f g x y own other = by_gathered files x.gathered y.gathered f g x.gathers y.gathers x.decides y.decides own other

@@ -12,7 +12,7 @@ use Rattle.qk_ast.specs.Application.{Breach, Of_names, Of_places, naming_of, pla
 use Rattle.qk_modules.specs.declared.modules.NamedModule.{NamedModule}
 use Rattle.qk_modules.specs.declared.modules.Modules.{Modules}
 use Rattle.qk_modules.specs.declared.fault.GatherFault.{GatherFault}
-use Rattle.qk_modules.specs.declared.fault.GatherFault.TheVariants.{Store}
+use Rattle.qk_modules.specs.declared.fault.GatherFault.TheVariants as gather
 use Rattle.qk_modules.specs.Causes as gathering
 use Rattle.qk_scope.specs.declared.resolver.Names.{Names}
 use Rattle.qk_scope.specs.declared.fault.ScopeFault.{ScopeFault}
@@ -24,10 +24,10 @@ use Rattle.qk_rules.specs.declared.fault.RuleFault.TheVariants as rule
 use Rattle.qk_rules.specs.Checking as checking
 use Rattle.qk_rules.specs.Checking.{Checks}
 use Rattle.qk_application.specs.declared.fault.ApplicationFault.{ApplicationFault}
-use Rattle.qk_application.specs.declared.fault.ApplicationFault.TheVariants.{Gathering, Naming, Placing}
+use Rattle.qk_application.specs.declared.fault.ApplicationFault.TheVariants.{Gathering, Naming, Placing, Memory}
 use Rattle.qk_application.specs.declared.application.Application.{Application}
-use Rattle.qk_application.specs.Accepting.{Judges, kept, misnamed, misplaced, want, Blames, names_of, named_module, breaches_of, application_of}
-use Rattle.qk_application.specs.Causes.{FailsByStore}
+use Rattle.qk_application.specs.Accepting.{Judges, kept, misnamed, misplaced, want, fault_of, Blames, names_of, named_module, breaches_of, application_of}
+use Rattle.qk_application.specs.Causes.{FailsByStore, TellsMemory}
 
 -- ---- one module
 
@@ -78,7 +78,7 @@ pub of_same : {T : Type 0} {breaches others : List Breach} {value : T} {result :
 of_same {value = value} {result = result} e h = subst (λ l. Judges l value result) e h
 
 -- the rules don't tell that the store failed
-pub no_failure : {T : Type 0} {breaches : List Breach} {value : T} (result : Result T ApplicationFault) → Judges breaches value result → result ≡ Err (Gathering Store) → ⊥
+pub no_failure : {T : Type 0} {breaches : List Breach} {value : T} (result : Result T ApplicationFault) → Judges breaches value result → result ≡ Err (Gathering gather.Store) → ⊥
 no_failure result (kept none) h = cc
 no_failure result (misnamed e) h = cc
 no_failure result (misplaced e) h = cc
@@ -154,13 +154,57 @@ all_kept modules lent again names done same lent_again h k =
     subst (λ n. Judges (breaches_of modules) (application_of modules) (Ok (record { modules = modules; names = n }))) (sym kept_all.1)
     (kept (ap (λ l. l ++ flat_map (placing_of (map named_module modules.list)) (map named_module modules.list)) kept_all.0 ∙ placed.0))
 
+-- ---- faults of gathering
+
+pub fault_kept : (fault : GatherFault) → ¬ (fault ≡ gather.Memory) → Gathering fault ≡ fault_of fault
+fault_kept gather.RootMissing other = refl
+fault_kept (gather.ImportMissing m name) other = refl
+fault_kept (gather.ExportMissing m name) other = refl
+fault_kept (gather.NotUtf8 m) other = refl
+fault_kept (gather.Parse m fault place) other = refl
+fault_kept gather.TooMany other = refl
+fault_kept gather.Store other = refl
+fault_kept gather.Memory other = absurd (other refl)
+
+-- what is told of a fault tells which it was
+told_store : (fault : GatherFault) → fault_of fault ≡ Gathering gather.Store → fault ≡ gather.Store
+told_store gather.RootMissing e = cc
+told_store (gather.ImportMissing m name) e = cc
+told_store (gather.ExportMissing m name) e = cc
+told_store (gather.NotUtf8 m) e = cc
+told_store (gather.Parse m fault place) e = cc
+told_store gather.TooMany e = cc
+told_store gather.Store e = refl
+told_store gather.Memory e = cc
+
+told_memory : (fault : GatherFault) → fault_of fault ≡ Gathering gather.Memory → ⊥
+told_memory gather.RootMissing e = cc
+told_memory (gather.ImportMissing m name) e = cc
+told_memory (gather.ExportMissing m name) e = cc
+told_memory (gather.NotUtf8 m) e = cc
+told_memory (gather.Parse m fault place) e = cc
+told_memory gather.TooMany e = cc
+told_memory gather.Store e = cc
+told_memory gather.Memory e = cc
+
+same_application : (f g : ApplicationFault) → ◌≡◌ {A = Result Application ApplicationFault} (Err f) (Err g) → f ≡ g
+same_application f g h = cc
+
+-- ---- want of memory
+
+pub memory_judged : (breaches : List Breach) (value : Application) (result : Result Application ApplicationFault) → Judges breaches value result → TellsMemory result
+memory_judged breaches value result (kept none) h = cc
+memory_judged breaches value result (misnamed e) h = cc
+memory_judged breaches value result (misplaced e) h = cc
+memory_judged breaches value result want h = cc
+
+pub memory_gathering : (fault : GatherFault) (result : Result Application ApplicationFault) → result ≡ Err (fault_of fault) → TellsMemory result
+memory_gathering fault result is h = told_memory fault (same_application (fault_of fault) (Gathering gather.Memory) (sym is ∙ h))
+
 -- ---- the store's faults
 
-not_store : (modules : Modules) → ◌≡◌ {A = Result Modules GatherFault} (Ok modules) (Err Store) → ⊥
+not_store : (modules : Modules) → ◌≡◌ {A = Result Modules GatherFault} (Ok modules) (Err gather.Store) → ⊥
 not_store modules h = cc
-
-same_fault : (f g : GatherFault) → ◌≡◌ {A = Result Application ApplicationFault} (Err (Gathering f)) (Err (Gathering g)) → f ≡ g
-same_fault f g h = cc
 
 same_gathered : (f g : GatherFault) → ◌≡◌ {A = Result Modules GatherFault} (Err f) (Err g) → f ≡ g
 same_gathered f g h = cc
@@ -168,9 +212,9 @@ same_gathered f g h = cc
 pub cause_judged : (before now : ℕ) (modules : Modules) (result : Result Application ApplicationFault) → gathering.FailsByStore {T = Modules} before now (Ok modules) → Judges (breaches_of modules) (application_of modules) result → FailsByStore before now result
 cause_judged before now modules result h judged = record { later = h.later; failed = λ e. absurd (no_failure result judged e); kept = λ none. h.kept (not_store modules) }
 
-pub cause_gathering : (before now : ℕ) (fault : GatherFault) → gathering.FailsByStore {T = Modules} before now (Err fault) → FailsByStore {T = Application} before now (Err (Gathering fault))
-cause_gathering before now fault h = record {
+pub cause_gathering : (before now : ℕ) (fault : GatherFault) (result : Result Application ApplicationFault) → result ≡ Err (fault_of fault) → gathering.FailsByStore {T = Modules} before now (Err fault) → FailsByStore before now result
+cause_gathering before now fault result is h = record {
   later = h.later;
-  failed = λ e. h.failed (ap Err (same_fault fault Store e));
-  kept = λ none. h.kept (λ e. none (ap (λ f. Err (Gathering f)) (same_gathered fault Store e)));
+  failed = λ e. h.failed (ap Err (told_store fault (same_application (fault_of fault) (Gathering gather.Store) (sym is ∙ e))));
+  kept = λ none. h.kept (λ e. none (is ∙ ap (λ f. Err (fault_of f)) (same_gathered fault gather.Store e)));
 }

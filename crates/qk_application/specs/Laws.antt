@@ -1,10 +1,10 @@
 -- The laws of acceptance: over the same files one thing is answered.
 use Rattle.std.specs.Prelude.{◌≡◌, ◌⊎◌, Ok, Err}
 use Rattle.qk_store.specs.Files.{Files}
-use Rattle.qk_modules.specs.declared.fault.GatherFault.TheVariants.{Store, Memory}
+use Rattle.qk_modules.specs.declared.fault.GatherFault.TheVariants.{Store}
 use Rattle.qk_application.specs.declared.application.Application.{Application}
 use Rattle.qk_application.specs.declared.fault.ApplicationFault.{ApplicationFault}
-use Rattle.qk_application.specs.declared.fault.ApplicationFault.TheVariants.{Gathering}
+use Rattle.qk_application.specs.declared.fault.ApplicationFault.TheVariants.{Gathering, Memory}
 use Rattle.qk_application.specs.Accepting.{AcceptsOver}
 
 -- files hold one accepted application at most
@@ -13,7 +13,7 @@ OneApplication = (files : Files) (a b : Application) → AcceptsOver files (Ok a
 
 -- it says nothing of the application: the store failed, or memory ran out
 abbrev pub IsFailure : ApplicationFault → Type 0
-IsFailure fault = (fault ≡ Gathering Store) ⊎ (fault ≡ Gathering Memory)
+IsFailure fault = (fault ≡ Gathering Store) ⊎ (fault ≡ Memory)
 
 -- an application that is accepted is refused by no fault of its own
 abbrev pub AcceptedOrRefused : Type 0

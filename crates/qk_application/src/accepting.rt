@@ -2,7 +2,7 @@
 
 ghost use Rattle.std.specs.Prelude.{◌≡◌};
 ghost use Rattle.qk_application.specs.Accepting.{Judges, breaches_of, application_of, Accepts};
-ghost use Rattle.qk_application.specs.Causes.{FailsByStore};
+ghost use Rattle.qk_application.specs.Causes.{FailsByStore, TellsMemory};
 
 use crate::naming::all_names;
 use crate::placing::check_places;
@@ -19,11 +19,10 @@ pub fn accept<S: Store>(alloc: Global, store: &mut S) -> Result<Application, App
     ensures accepts { Accepts (S.files store.old) (S.answers store.old) (S.answers store.new) result }
     ensures files { S.files store.new ≡ S.files store.old }
     ensures cause { FailsByStore (S.faults store.old) (S.faults store.new) result }
+    ensures memory { TellsMemory result }
 {
-    match gather(alloc, store) {
-        Ok(modules) => judge(alloc, modules),
-        Err(fault) => Err(ApplicationFault::Gathering(fault)),
-    }
+    let modules = gather(alloc, store)?;
+    judge(alloc, modules)
 }
 
 /// The application of these modules, where they keep all rules.

@@ -6,7 +6,7 @@ ghost use Rattle.qk_application.specs.Accepting.{Judges, Blames, named_module, n
 
 use crate::ApplicationFault;
 use qk_ast::{Form, ScopeKind};
-use qk_modules::{GatherFault, NamedModule};
+use qk_modules::NamedModule;
 use qk_scope::{Names, ScopeFault, resolve};
 use qk_shared::{Builder, List, Text};
 use std::alloc::Global;
@@ -32,7 +32,7 @@ fn names(alloc: Global, module: &NamedModule) -> Result<Names, ApplicationFault>
     match resolve(alloc, &module.name, &module.module, Form::Source) {
         Ok(names) => Ok(names),
         Err(ScopeFault::Refused { kind, name }) => Err(refusal(&module.name, kind, name)),
-        Err(ScopeFault::Memory) => Err(ApplicationFault::Gathering(GatherFault::Memory)),
+        Err(ScopeFault::Memory) => Err(ApplicationFault::Memory),
     }
 }
 
@@ -42,6 +42,6 @@ fn refusal(module: &Text, kind: ScopeKind, name: Text) -> ApplicationFault
 {
     match module.share() {
         Ok(module) => ApplicationFault::Naming { module, kind, name },
-        Err(_) => ApplicationFault::Gathering(GatherFault::Memory),
+        Err(_) => ApplicationFault::Memory,
     }
 }

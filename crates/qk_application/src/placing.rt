@@ -6,7 +6,7 @@ ghost use Rattle.qk_application.specs.Accepting.{Judges, Blames, named_module};
 
 use crate::ApplicationFault;
 use qk_ast::RuleKind;
-use qk_modules::{GatherFault, NamedModule};
+use qk_modules::NamedModule;
 use qk_rules::{Kinds, RuleFault, check};
 use qk_shared::Text;
 use std::alloc::Global;
@@ -22,12 +22,12 @@ pub(crate) fn check_places(alloc: Global, modules: &[NamedModule]) -> Result<(),
 /// What the roots of these modules have under their names.
 fn kinds_of<'a>(alloc: Global, modules: &'a [NamedModule]) -> Result<Kinds<'a>, ApplicationFault>
     ensures kinds { IfOk result (λ kinds. kinds ≡ map named_module modules.now) }
-    ensures want { IfErr result (λ fault. fault ≡ ApplicationFault.Gathering GatherFault.Memory) }
+    ensures want { IfErr result (λ fault. fault ≡ ApplicationFault.Memory) }
 {
     let mut kinds = Kinds::new(alloc);
     for module in modules {
         let Ok(()) = kinds.add(&module.name, &module.module) else {
-            return Err(ApplicationFault::Gathering(GatherFault::Memory));
+            return Err(ApplicationFault::Memory);
         };
     }
     Ok(kinds)
@@ -54,7 +54,7 @@ fn check_one(alloc: Global, kinds: &Kinds<'_>, module: &NamedModule) -> Result<(
     match check(alloc, kinds, &module.name, &module.module) {
         Ok(()) => Ok(()),
         Err(RuleFault::Refused { kind, name }) => Err(refusal(&module.name, kind, name)),
-        Err(RuleFault::Memory) => Err(ApplicationFault::Gathering(GatherFault::Memory)),
+        Err(RuleFault::Memory) => Err(ApplicationFault::Memory),
     }
 }
 
@@ -64,6 +64,6 @@ fn refusal(module: &Text, kind: RuleKind, name: Text) -> ApplicationFault
 {
     match module.share() {
         Ok(module) => ApplicationFault::Placing { module, kind, name },
-        Err(_) => ApplicationFault::Gathering(GatherFault::Memory),
+        Err(_) => ApplicationFault::Memory,
     }
 }

@@ -13,6 +13,7 @@ pub mod Texts
 pub mod Names
 pub mod Arrows
 pub mod Uses
+pub mod NamePlaces
 pub mod Walking
 pub mod Framework
 pub mod Scopes

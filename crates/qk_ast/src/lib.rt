@@ -1,12 +1,14 @@
 //! The syntax tree of JSX modules, and the grammar that says which module a text derives.
 #![tactic(auto)]
 
+pub mod framework;
 mod free_names;
 pub mod laws;
 mod name_set;
 mod walk;
 
 pub use free_names::{AstFault, free};
+pub use name_set::NameSet;
 use qk_shared::{List, Shared, Text};
 
 /// A module as it is written, or a file that was built.

@@ -3,60 +3,86 @@
 
 ghost use Rattle.std.specs.Prelude.{◌≡◌, [], length, take, not, flat_map, OnOk, IfOk};
 ghost use Rattle.qk_ast.specs.Names.{is_listed, pattern_names, patterns_names, declared_by};
+ghost use Rattle.qk_ast.specs.Scopes.{names_declared};
 ghost use Rattle.qk_ast.specs.Walking.{with_name, with_names};
 
 use crate::{Pattern, Stmt};
-use indexmap::IndexSet;
 use qk_shared::Text;
 use std::alloc::{AllocError, Global};
+use std::collections::BTreeMap;
 use std::marker::Model;
 
 /// Names in order, each once. Contracts see them as a list, the latest at its end.
+///
+/// Beside the list stands where each name is in it. A name that was cut off may have a place still, which counts only where the list has the
+/// name there. The table is ordered, so that no choice of names makes it slow.
 #[derive(Drop)]
-pub(crate) struct NameSet<'a> {
-    names: IndexSet<&'a str>,
+pub struct NameSet<'a> {
+    names: Vec<&'a str>,
+    places: BTreeMap<&'a str, usize>,
 }
 
 impl<'a> Model for NameSet<'a> {
-    ghost use Rattle.std.specs.Prelude.{List, ℕ, map};
+    ghost use Rattle.std.specs.Prelude.{List, ℕ};
+    ghost use Rattle.qk_ast.specs.NamePlaces.{names_of, HoldPlaces};
 
     ghost Value = { List (List ℕ) };
 
-    ghost view = { λ s. map (λ name. name.now) s.names.keys };
+    ghost view = { λ s. names_of s.names.items };
+
+    ghost invariant = { λ s. HoldPlaces s.places (names_of s.names.items) };
 }
 
 impl<'a> NameSet<'a> {
     /// No names yet. It takes no memory.
-    pub(crate) fn new(alloc: Global) -> NameSet<'a>
+    pub fn new(alloc: Global) -> NameSet<'a>
         ensures { result ≡ [] }
     {
         NameSet {
-            names: IndexSet::new(alloc),
+            names: Vec::new(alloc),
+            places: BTreeMap::new(alloc),
         }
     }
 
-    pub(crate) fn len(&self) -> usize
+    /// How many names there are.
+    pub fn len(&self) -> usize
         ensures { result ≡ length self.now }
     {
         self.names.len()
     }
 
-    pub(crate) fn has(&self, name: &str) -> bool
+    /// Whether the name is among them.
+    pub fn has(&self, name: &str) -> bool
         ensures { result ≡ is_listed name.now self.now }
     {
-        self.names.contains(name)
+        let Some(place) = self.places.get(name) else {
+            return false;
+        };
+        match self.names.get(*place) {
+            Some(there) => *there == name,
+            None => false,
+        }
     }
 
     /// The name goes last unless it is there. The answer is whether it is new.
-    pub(crate) fn add(&mut self, name: &'a str) -> Result<bool, AllocError>
+    ///
+    /// # Errors
+    ///
+    /// Where memory runs out, as of each method that adds.
+    pub fn add(&mut self, name: &'a str) -> Result<bool, AllocError>
         ensures names { OnOk result (self.new ≡ with_name self.old name.now) }
         ensures new { IfOk result (λ new. new ≡ not (is_listed name.now self.old)) }
     {
-        Ok(self.names.insert(name)?)
+        if self.has(name) {
+            return Ok(false);
+        }
+        self.places.insert(name, self.names.len())?;
+        self.names.push(name)?;
+        Ok(true)
     }
 
     /// Only that many names stay, the earliest ones.
-    pub(crate) fn cut(&mut self, len: usize)
+    pub fn cut(&mut self, len: usize)
         ensures { self.new ≡ take len self.old }
     {
         self.names.truncate(len);
@@ -65,7 +91,7 @@ impl<'a> NameSet<'a> {
 
 impl<'a> NameSet<'a> {
     /// Each of the names, in order.
-    pub(crate) fn add_all(&mut self, names: &'a [Text]) -> Result<(), AllocError>
+    pub fn add_all(&mut self, names: &'a [Text]) -> Result<(), AllocError>
         ensures { OnOk result (self.new ≡ with_names self.old names.now) }
     {
         for name in names {
@@ -75,7 +101,7 @@ impl<'a> NameSet<'a> {
     }
 
     /// The names of a pattern.
-    pub(crate) fn add_pattern(&mut self, pattern: &'a Pattern) -> Result<(), AllocError>
+    pub fn add_pattern(&mut self, pattern: &'a Pattern) -> Result<(), AllocError>
         ensures { OnOk result (self.new ≡ with_names self.old (pattern_names pattern.now)) }
     {
         match pattern {
@@ -89,7 +115,7 @@ impl<'a> NameSet<'a> {
     }
 
     /// The names of an arrow's parameters.
-    pub(crate) fn add_parameters(&mut self, params: &'a [Pattern]) -> Result<(), AllocError>
+    pub fn add_parameters(&mut self, params: &'a [Pattern]) -> Result<(), AllocError>
         ensures { OnOk result (self.new ≡ with_names self.old (patterns_names params.now)) }
     {
         for pattern in params {
@@ -98,12 +124,11 @@ impl<'a> NameSet<'a> {
         Ok(())
     }
 
-    /// The names that a statement declares in its block; those of `useLexicalScope` stand around it.
-    fn add_declared_by(&mut self, statement: &'a Stmt) -> Result<(), AllocError>
-        ensures { OnOk result (self.new ≡ with_names self.old (declared_by statement.now)) }
+    /// The names that a statement declares in its block.
+    pub fn add_declared_by(&mut self, statement: &'a Stmt) -> Result<(), AllocError>
+        ensures { OnOk result (self.new ≡ with_names self.old (names_declared statement.now)) }
     {
         match statement {
-            Stmt::Const(Pattern::Scope(_), _) => Ok(()),
             Stmt::Const(pattern, _) => self.add_pattern(pattern),
             Stmt::Let(name, _) => {
                 self.add(name.as_str())?;
@@ -113,12 +138,22 @@ impl<'a> NameSet<'a> {
         }
     }
 
-    /// The names that the statements of a block declare there.
+    /// The names that a statement declares in its block, but for those of `useLexicalScope`, which stand around it.
+    fn add_own(&mut self, statement: &'a Stmt) -> Result<(), AllocError>
+        ensures { OnOk result (self.new ≡ with_names self.old (declared_by statement.now)) }
+    {
+        match statement {
+            Stmt::Const(Pattern::Scope(_), _) => Ok(()),
+            _ => self.add_declared_by(statement),
+        }
+    }
+
+    /// The names that the statements of a block declare there, as of `add_own`.
     pub(crate) fn add_declared(&mut self, statements: &'a [Stmt]) -> Result<(), AllocError>
         ensures { OnOk result (self.new ≡ with_names self.old (flat_map declared_by statements.now)) }
     {
         for statement in statements {
-            self.add_declared_by(statement)?;
+            self.add_own(statement)?;
         }
         Ok(())
     }

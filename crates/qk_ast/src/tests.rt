@@ -1,4 +1,4 @@
-//! The free names of an arrow. More of them are found in the tests of the parser, which makes trees of texts.
+//! Sets of names, and the free names of an arrow. More of these are found in the tests of the parser, which makes trees of texts.
 
 use super::*;
 use std::alloc::{AllocError, Global};
@@ -23,5 +23,22 @@ fn one_name(rt: HostRuntime) -> Result<(), Fail> {
     for name in found.as_slice() {
         assert!(rt; name.as_str() == "b");
     }
+    Ok(())
+}
+
+#[test]
+fn names_and_places(rt: HostRuntime) -> Result<(), Fail> {
+    let mut names = NameSet::new(rt.alloc());
+    assert!(rt; names.add("a")?);
+    assert!(rt; names.add("b")?);
+    assert!(rt; !names.add("a")?);
+    assert!(rt; names.has("b"));
+    assert!(rt; !names.has("c"));
+    names.cut(1);
+    assert!(rt; !names.has("b"));
+    assert!(rt; names.add("c")?);
+    assert!(rt; !names.has("b"));
+    assert!(rt; names.add("b")?);
+    assert!(rt; names.len() == 3);
     Ok(())
 }

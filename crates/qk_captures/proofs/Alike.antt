@@ -20,7 +20,7 @@ notes found = map note_of found
 pub both_noted : (a c : List Found_arrow) → notes (a ++ c) ≡ notes a ++ notes c
 both_noted a c = map-append note_of a c
 
-joined : (a b c d : List Found_arrow) → notes a ≡ notes b → notes c ≡ notes d → notes (a ++ c) ≡ notes (b ++ d)
+pub joined : (a b c d : List Found_arrow) → notes a ≡ notes b → notes c ≡ notes d → notes (a ++ c) ≡ notes (b ++ d)
 joined a b c d h k = both_noted a c ∙ ap (λ ns. ns ++ notes c) h ∙ ap (λ ns. notes b ++ ns) k ∙ sym (both_noted b d)
 
 note_alike : (a : Found_arrow) (s t : List Text) → Same s t → note_of (record a { scope = s }) ≡ note_of (record a { scope = t })

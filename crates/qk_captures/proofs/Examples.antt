@@ -8,6 +8,7 @@ use Rattle.qk_ast.specs.declared.Body.{Body}
 use Rattle.qk_ast.specs.declared.Body.TheVariants as b
 use Rattle.qk_ast.specs.declared.Link.TheVariants as l
 use Rattle.qk_ast.specs.declared.Stmt.TheVariants as s
+use Rattle.qk_ast.specs.declared.Form.TheVariants.{Source, Built}
 use Rattle.qk_ast.specs.declared.Pattern.{Pattern}
 use Rattle.qk_ast.specs.declared.Pattern.TheVariants as p
 use Rattle.qk_ast.specs.declared.Module.{Module}
@@ -43,7 +44,7 @@ component = one_item (call (codes "component$") (arrow [] (b.Block (
     ∷ []))))
 
 -- the component captures nothing, the task `s`, and the last arrow `t` and then `s`; `App` is no local
-pub component_captures : captured_in file component ≡ dollar_site 1 [] ∷ dollar_site 2 (codes "s" ∷ []) ∷ plain_site 1 (codes "s" ∷ []) ∷ plain_site 2 (codes "t" ∷ codes "s" ∷ []) ∷ []
+pub component_captures : captured_in Source file component ≡ dollar_site 1 [] ∷ dollar_site 2 (codes "s" ∷ []) ∷ plain_site 1 (codes "s" ∷ []) ∷ plain_site 2 (codes "t" ∷ codes "s" ∷ []) ∷ []
 unfolding hidden-the_row-Expr-0 hidden hidden-the_row-Link-5 hidden-the_row-Arrow-6
 component_captures = refl
 
@@ -55,6 +56,22 @@ with_task = one_item (arrow (p.Name (codes "track") ∷ []) (b.Value (e.List (
     ∷ []))))
 
 -- outside of the task `track` is a local, inside it is none
-pub with_task_captures : captured_in file with_task ≡ plain_site 1 [] ∷ plain_site 2 (codes "track" ∷ []) ∷ dollar_site 1 [] ∷ plain_site 3 [] ∷ []
+pub with_task_captures : captured_in Source file with_task ≡ plain_site 1 [] ∷ plain_site 2 (codes "track" ∷ []) ∷ dollar_site 1 [] ∷ plain_site 3 [] ∷ []
 unfolding hidden-the_row-Expr-0 hidden hidden-the_row-Link-5 hidden-the_row-Arrow-6
 with_task_captures = refl
+
+-- () => { const [n] = useLexicalScope(); return () => n; }
+abbrev segment : Module
+segment = one_item (arrow [] (b.Block (
+    s.Const (p.Scope (codes "n" ∷ [])) (e.Post (e.Name (codes "useLexicalScope")) (l.Call [] ∷ []))
+    ∷ s.Return (Some (arrow [] (b.Value (e.Name (codes "n")))))
+    ∷ [])))
+
+-- in a built file `n` is a local around both arrows, and in a source around none
+pub segment_captures : captured_in Built file segment ≡ plain_site 1 (codes "n" ∷ []) ∷ plain_site 2 (codes "n" ∷ []) ∷ []
+unfolding hidden-the_row-Expr-0 hidden hidden-the_row-Link-5 hidden-the_row-Arrow-6
+segment_captures = refl
+
+pub source_captures : captured_in Source file segment ≡ plain_site 1 [] ∷ plain_site 2 [] ∷ []
+unfolding hidden-the_row-Expr-0 hidden hidden-the_row-Link-5 hidden-the_row-Arrow-6
+source_captures = refl

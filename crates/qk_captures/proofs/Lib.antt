@@ -4,3 +4,4 @@ pub mod Once
 pub mod Alike
 pub mod Walks
 pub mod Numbers
+pub mod Lexical

@@ -141,6 +141,15 @@ has_track q s h = sym (listed_shown q s.track s.names ∙ ap (λ b. elim b [ tru
 pub has_other : (q : Text) (s : Scope) → same_text q track ≡ false → is_listed q s.names ≡ is_listed q (in_scope s)
 has_other q s h = sym (listed_shown q s.track s.names ∙ ap (λ b. elim b [ true ↦ s.track | false ↦ is_listed q s.names ]) (nat_list_eq_equiv.symm track q ∙ h))
 
+or_none : (b : Bool) → (b || false) ≡ b
+or_none true = refl
+or_none false = refl
+
+-- names that have nothing around them, in either order
+pub same_alone : (names : List Text) → Same (around names []) names
+unfolding Same
+same_alone names q = listed_around q names [] ∙ or_none (is_listed q names)
+
 -- ---- back in the outer scope
 
 names_all : (names : List Text) (s : Scope) → (with_all names s).names ≡ with_names s.names names

@@ -21,6 +21,8 @@ use Rattle.qk_ast.specs.declared.Known.{Known}
 use Rattle.qk_ast.specs.declared.Pattern.{Pattern}
 use Rattle.qk_ast.specs.declared.Jsx.{Jsx, roll-Jsx, out-Jsx, roll-out-Jsx}
 use Rattle.qk_ast.specs.declared.Field.{Field}
+use Rattle.qk_ast.specs.declared.Form.{Form}
+use Rattle.qk_ast.specs.declared.Item.{Item}
 use Rattle.qk_ast.specs.declared.Operand.{Operand}
 use Rattle.qk_ast.specs.Texts.{Text}
 use Rattle.qk_ast.specs.Names.{around, declared_in, declared_by}
@@ -28,10 +30,10 @@ use Rattle.qk_ast.specs.Arrows.{Mark, Unmarked, Found_arrow, call_mark, inner_sc
 use Rattle.qk_captures.specs.declared.scope.Scope.{Scope}
 use Rattle.qk_captures.specs.declared.scope.Outside.{Outside}
 use Rattle.qk_captures.specs.declared.walk.Walk.{Walk}
-use Rattle.qk_captures.specs.Scoping.{in_scope, with_one, with_all, inside_arrow, block_names, outside_of, back_to}
-use Rattle.qk_captures.specs.Walking.{Note, note_of, noted, all_noted, behind, none_found, each_found, marked_found, field_found, attribute_found, operand_found, link_found, links_found, returned_found, arrow_of, arrow_found, block_found, for_found}
+use Rattle.qk_captures.specs.Scoping.{in_scope, with_one, with_all, inside_arrow, block_names, names_before, outside_of, back_to}
+use Rattle.qk_captures.specs.Walking.{Note, note_of, noted, all_noted, behind, none_found, each_found, marked_found, field_found, attribute_found, operand_found, link_found, links_found, returned_found, arrow_of, arrow_found, block_found, for_found, item_found}
 use Rattle.qk_captures.proofs.Scopes.{Same, in_scope_all, in_scope_inside, back_from_all, back_from_arrow}
-use Rattle.qk_captures.proofs.Alike.{notes, both_noted, statement_alike, block_alike, body_alike}
+use Rattle.qk_captures.proofs.Alike.{notes, both_noted, alike, statement_alike, block_alike, body_alike}
 
 -- ---- the walk
 
@@ -294,3 +296,11 @@ behind_for name x ss w = behind_same _ _ w (λ scope. ap (λ found. arrows x Unm
 
 pub behind_inner : (ss : List Stmt) (w : Walk) → behind (statement_arrows (s.Block ss)) w ≡ behind (block_found ss) w
 behind_inner ss w = behind_same _ _ w (block_row ss)
+
+-- ---- items
+
+pub behind_item : (form : Form) (i : Item) (old done : Walk) (inner left : Scope) (outside : Outside) → outside ≡ outside_of old.scope
+    → inner ≡ with_all (names_before form i.init) old.scope → done ≡ behind (arrows i.init Unmarked) (record old { scope = inner }) → left ≡ back_to outside done.scope
+    → record done { scope = left } ≡ behind (item_found form i) old
+behind_item form i old done inner left outside at opened walked closed =
+    behind_scope (names_before form i.init) (arrows i.init Unmarked) (item_found form i) old done inner left outside at opened walked closed (alike i.init Unmarked) (λ scope. refl)

@@ -1,10 +1,32 @@
 -- The arrows of a module or built file as sites, each with the names that it captures.
 use Rattle.std.specs.Prelude.{suc, List, [], ◌∷◌, ◌++◌, length}
+use Rattle.qk_ast.specs.declared.Expr.{Expr, more_of-Arrow}
+use Rattle.qk_ast.specs.declared.Form.{Form}
+use Rattle.qk_ast.specs.declared.Form.TheVariants.{Source, Built}
+use Rattle.qk_ast.specs.declared.Item.{Item}
 use Rattle.qk_ast.specs.declared.Module.{Module}
 use Rattle.qk_ast.specs.Texts.{Text}
-use Rattle.qk_ast.specs.Arrows.{Found_arrow, item_arrows, is_dollar, of_kind}
+use Rattle.qk_ast.specs.Names.{scope_names}
+use Rattle.qk_ast.specs.Arrows.{Unmarked, Found_arrow, arrows, item_arrows, is_dollar, of_kind}
 use Rattle.qk_ast.specs.Uses.{captures_of}
 use Rattle.qk_captures.specs.declared.Captured.{Captured}
+
+-- ---- the arrows of a file, in text order, each with the names declared around it
+
+-- the names around the arrow of a built file's item: those of the `useLexicalScope` with which its body begins
+abbrev pub names_around : Expr → List Text
+names_around (Expr.Arrow' _ (more_of-Arrow place params body _)) = scope_names body
+names_around _ = []
+
+abbrev pub built_arrows : List Item → List Found_arrow
+built_arrows [] = []
+built_arrows (i ∷ rest) = arrows i.init Unmarked (names_around i.init) ++ built_arrows rest
+
+abbrev pub arrows_of : Form → Module → List Found_arrow
+arrows_of Source m = item_arrows m.items
+arrows_of Built m = built_arrows m.items
+
+-- ---- their sites and captures
 
 -- the arrows behind those before them: each is numbered from 1 among those of its kind
 abbrev pub captured_after : Text → (before : List Found_arrow) → List Found_arrow → List Captured
@@ -14,5 +36,5 @@ captured_after file before (a ∷ rest) =
     ∷ captured_after file (before ++ a ∷ []) rest
 
 -- all arrows of a module or built file of that name, in text order
-abbrev pub captured_in : Text → Module → List Captured
-captured_in file m = captured_after file [] (item_arrows m.items)
+abbrev pub captured_in : Form → Text → Module → List Captured
+captured_in form file m = captured_after file [] (arrows_of form m)

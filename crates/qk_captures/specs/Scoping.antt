@@ -1,5 +1,8 @@
 -- The names in scope as the walk keeps them: all that were entered, each once, and apart from them whether `track` is in scope.
 use Rattle.std.specs.Prelude.{Bool, true, false, ◌||◌, List, [], ◌∷◌, codes, length, take, flat_map}
+use Rattle.qk_ast.specs.declared.Expr.{Expr}
+use Rattle.qk_ast.specs.declared.Form.{Form}
+use Rattle.qk_ast.specs.declared.Form.TheVariants.{Source, Built}
 use Rattle.qk_ast.specs.declared.Pattern.{Pattern}
 use Rattle.qk_ast.specs.declared.Stmt.{Stmt}
 use Rattle.qk_ast.specs.Texts.{Text, same_text}
@@ -8,6 +11,7 @@ use Rattle.qk_ast.specs.Arrows as arrows
 use Rattle.qk_ast.specs.Walking.{with_name}
 use Rattle.qk_captures.specs.declared.scope.Scope.{Scope}
 use Rattle.qk_captures.specs.declared.scope.Outside.{Outside}
+use Rattle.qk_captures.specs.Capturing.{names_around}
 
 -- whether an arrow with this mark is a dollar arrow
 abbrev pub is_dollar_mark : arrows.Mark → Bool
@@ -41,6 +45,16 @@ inside_arrow mark params s = with_all (patterns_names params) s
 -- the names that statements declare in their block
 abbrev pub block_names : List Stmt → List Text
 block_names statements = flat_map declared_by statements
+
+-- the names of the `useLexicalScope` with which statements begin
+abbrev pub first_names : List Stmt → List Text
+first_names (Stmt.Const (Pattern.Scope names) e ∷ rest) = names
+first_names _ = []
+
+-- the names that are entered before an item's value
+abbrev pub names_before : Form → Expr → List Text
+names_before Source x = []
+names_before Built x = names_around x
 
 -- what is remembered of a scope when an inner one is entered
 abbrev pub outside_of : Scope → Outside

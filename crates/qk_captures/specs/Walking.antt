@@ -3,6 +3,7 @@ use Rattle.std.specs.Prelude.{ℕ, suc, Bool, true, false, not, List, [], ◌∷
 use Rattle.qk_ast.specs.declared.Arrow.{Arrow}
 use Rattle.qk_ast.specs.declared.Expr.{Expr}
 use Rattle.qk_ast.specs.declared.Field.{Field}
+use Rattle.qk_ast.specs.declared.Form.{Form}
 use Rattle.qk_ast.specs.declared.Item.{Item}
 use Rattle.qk_ast.specs.declared.Operand.{Operand}
 use Rattle.qk_ast.specs.declared.Link.{Link}
@@ -13,7 +14,7 @@ use Rattle.qk_ast.specs.Arrows.{Mark, Unmarked, Found_arrow, arrows, all_arrows,
 use Rattle.qk_ast.specs.Uses.{captures_of}
 use Rattle.qk_captures.specs.declared.Captured.{Captured}
 use Rattle.qk_captures.specs.declared.walk.Walk.{Walk}
-use Rattle.qk_captures.specs.Scoping.{in_scope, block_names}
+use Rattle.qk_captures.specs.Scoping.{in_scope, block_names, names_before}
 
 -- ---- what is noted
 
@@ -100,5 +101,5 @@ block_found statements scope = each_found statement_arrows statements (around (b
 abbrev pub for_found : Text → List Stmt → List Text → List Found_arrow
 for_found name statements scope = block_found statements (name ∷ scope)
 
-abbrev pub item_found : Item → List Text → List Found_arrow
-item_found i = arrows i.init Unmarked
+abbrev pub item_found : Form → Item → List Text → List Found_arrow
+item_found form i scope = arrows i.init Unmarked (around (names_before form i.init) scope)

@@ -4,11 +4,10 @@
 ghost use Rattle.std.specs.Prelude.{◌≡◌, IfOk};
 ghost use Rattle.qk_captures.specs.Capturing.{captured_in};
 
-mod name_set;
 mod scope;
 mod walk;
 
-use qk_ast::{Module, Site};
+use qk_ast::{Form, Module, Site};
 use qk_shared::{List, Text};
 use std::alloc::{AllocError, Global};
 use walk::Walk;
@@ -22,14 +21,21 @@ pub struct Captured {
 
 /// The arrows of a module or built file of that name, in text order, so that an arrow's entry stands at its place.
 ///
+/// In a built file the names of the `useLexicalScope` with which an item's arrow begins are locals around that arrow.
+///
 /// # Errors
 ///
 /// For want of memory. So is refused, too, a tree of 2 ^ 32 arrows of one kind; no text has that many.
-pub fn captures(alloc: Global, file: &Text, m: &Module) -> Result<List<Captured>, AllocError>
-    ensures { IfOk result (λ all. all ≡ captured_in file.now m.now) }
+pub fn captures(
+    alloc: Global,
+    file: &Text,
+    m: &Module,
+    form: Form,
+) -> Result<List<Captured>, AllocError>
+    ensures { IfOk result (λ all. all ≡ captured_in form file.now m.now) }
 {
     let mut walk = Walk::new(alloc, file);
-    walk.items(m.items.as_slice())?;
+    walk.items(m.items.as_slice(), form)?;
     walk.into_found()
 }
 

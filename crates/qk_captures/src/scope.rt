@@ -1,12 +1,12 @@
 //! The names in scope at a place.
 
 ghost use Rattle.std.specs.Prelude.{◌≡◌, [], ◌∷◌, ◌++◌, OnOk, IfOk};
-ghost use Rattle.qk_ast.specs.Names.{is_listed, those_of, pattern_names, patterns_names, declared_by};
+ghost use Rattle.qk_ast.specs.Names.{is_listed, those_of, pattern_names, patterns_names, declared_by, scope_names};
 ghost use Rattle.qk_locals.specs.Meanings.{mark_of};
-ghost use Rattle.qk_captures.specs.Scoping.{in_scope, with_one, with_all, inside_arrow, block_names, outside_of, back_to};
+ghost use Rattle.qk_captures.specs.Capturing.{names_around};
+ghost use Rattle.qk_captures.specs.Scoping.{in_scope, with_one, with_all, inside_arrow, block_names, first_names, names_before, outside_of, back_to};
 
-use crate::name_set::NameSet;
-use qk_ast::{Pattern, Stmt};
+use qk_ast::{Body, Expr, Form, NameSet, Pattern, Stmt};
 use qk_locals::Mark;
 use qk_shared::{Builder, List, Text};
 use std::alloc::{AllocError, Global};
@@ -170,5 +170,46 @@ impl<'a> Scope<'a> {
             self.enter_declared(statement)?;
         }
         Ok(())
+    }
+}
+
+/// The names of `useLexicalScope`.
+#[tactic(auto, unfolding(crate::specs::Scoping::with_all))]
+impl<'a> Scope<'a> {
+    /// Around the value of an item. In a built file the names of the `useLexicalScope` with which its arrow begins stand there.
+    pub(crate) fn enter_around(&mut self, form: Form, value: &'a Expr) -> Result<(), AllocError>
+        ensures { OnOk result (self.new ≡ with_all (names_before form value.now) self.old) }
+    {
+        match form {
+            Form::Source => Ok(()),
+            Form::Built => self.enter_lexical(value),
+        }
+    }
+
+    fn enter_lexical(&mut self, value: &'a Expr) -> Result<(), AllocError>
+        ensures { OnOk result (self.new ≡ with_all (names_around value.now) self.old) }
+    {
+        match value {
+            Expr::Arrow(arrow) => self.enter_first_of(&arrow.get().body),
+            _ => Ok(()),
+        }
+    }
+
+    fn enter_first_of(&mut self, body: &'a Body) -> Result<(), AllocError>
+        ensures { OnOk result (self.new ≡ with_all (scope_names body.now) self.old) }
+    {
+        match body {
+            Body::Value(_) => Ok(()),
+            Body::Block(statements) => self.enter_first(statements.as_slice()),
+        }
+    }
+
+    fn enter_first(&mut self, statements: &'a [Stmt]) -> Result<(), AllocError>
+        ensures { OnOk result (self.new ≡ with_all (first_names statements.now) self.old) }
+    {
+        match statements {
+            [Stmt::Const(Pattern::Scope(names), _), ..] => self.enter_all(names.as_slice()),
+            _ => Ok(()),
+        }
     }
 }

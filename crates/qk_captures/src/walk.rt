@@ -11,7 +11,7 @@ ghost use Rattle.qk_captures.specs.Walking.{noted, behind, each_found, marked_fo
 
 use crate::Captured;
 use crate::scope::Scope;
-use qk_ast::{Arrow, Body, Expr, Field, Item, Jsx, Link, Operand, Site, Stmt, free};
+use qk_ast::{Arrow, Body, Expr, Field, Form, Item, Jsx, Link, Operand, Site, Stmt, free};
 use qk_locals::Mark;
 use qk_shared::{Builder, List, Text};
 use std::alloc::{AllocError, Global};
@@ -315,13 +315,24 @@ impl<'a> Walk<'a> {
         Ok(())
     }
 
-    /// The initialisers of a module's items.
-    pub(crate) fn items(&mut self, items: &'a [Item]) -> Result<(), AllocError>
-        ensures { OnOk result (self.new ≡ behind (each_found item_found items.now) self.old) }
+    /// The values of a file's items.
+    pub(crate) fn items(&mut self, items: &'a [Item], form: Form) -> Result<(), AllocError>
+        ensures { OnOk result (self.new ≡ behind (each_found (item_found form) items.now) self.old) }
     {
         for item in items {
-            self.unmarked(&item.init)?;
+            self.item(item, form)?;
         }
+        Ok(())
+    }
+
+    /// The value of an item, with the names that stand around it in that form.
+    fn item(&mut self, item: &'a Item, form: Form) -> Result<(), AllocError>
+        ensures { OnOk result (self.new ≡ behind (item_found form item.now) self.old) }
+    {
+        let outside = self.scope.outside();
+        self.scope.enter_around(form, &item.init)?;
+        self.unmarked(&item.init)?;
+        self.scope.leave(outside);
         Ok(())
     }
 

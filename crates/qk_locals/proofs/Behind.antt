@@ -11,7 +11,7 @@ use Rattle.qk_ast.specs.declared.Pattern.{Pattern}
 use Rattle.qk_ast.specs.Walking.{with_names}
 use Rattle.qk_ast.specs.Scopes.{Scope, names_declared, behind}
 use Rattle.qk_locals.specs.Layers.{behind_all}
-use Rattle.qk_locals.proofs.Names.{with_both}
+use Rattle.qk_ast.proofs.NameSets.{with_both}
 
 ended_more : (front : List Text) (ss : List Stmt) (s : Stmt) → front ++ flat_map names_declared (ss ++ s ∷ []) ≡ (front ++ flat_map names_declared ss) ++ names_declared s
 ended_more front ss s = ap (λ names. front ++ names) (flat_map-append names_declared ss (s ∷ []) ∙ ap (λ names. flat_map names_declared ss ++ names) (append-nil (names_declared s)))

@@ -1,14 +1,10 @@
--- Sets of names: which names are among them, and names that go one after another.
-use Rattle.std.specs.Prelude.{◌≡◌, refl, Bool, true, false, ◌||◌, List, [], ◌++◌}
+-- Which names are in the set of a list.
+use Rattle.std.specs.Prelude.{◌≡◌, refl, Bool, true, false, ◌||◌, List, []}
 use Rattle.std.proofs.Common.{◌∙◌}
 use Rattle.qk_ast.specs.Texts.{Text}
 use Rattle.qk_ast.specs.Names.{is_listed}
 use Rattle.qk_ast.specs.Walking.{with_names}
-use Rattle.qk_ast.proofs.NameSets as sets
 use Rattle.qk_ast.proofs.Bound.{listed_inside}
-
-pub with_both : (names xs ys : List Text) → with_names names (xs ++ ys) ≡ with_names (with_names names xs) ys
-with_both = sets.with_both
 
 or_none : (b : Bool) → (b || false) ≡ b
 or_none true = refl

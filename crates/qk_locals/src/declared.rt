@@ -1,55 +1,45 @@
 //! What a scope declares: each name with the kind of its first declaration.
+#![tactic(auto, unfolding(crate::specs::Declaring::declared_at))]
 
-ghost use Rattle.std.specs.Prelude.{◌≡◌, [], ◌∷◌, flat_map, OnOk};
+ghost use Rattle.std.specs.Prelude.{◌≡◌, ℕ, List, [], ◌∷◌, None, flat_map, OnOk};
 ghost use Rattle.std.specs.Option.{option_map};
 ghost use Rattle.qk_ast.specs.Names.{pattern_names, patterns_names};
 ghost use Rattle.qk_ast.specs.Scopes.{kind_in, declared_as, declarations_of, declarations_in};
 ghost use Rattle.qk_locals.specs.Meanings.{kind_of};
-ghost use Rattle.qk_locals.specs.Declaring.{with_declaration, with_declarations};
+ghost use Rattle.qk_locals.specs.Declaring.{declared_at, first_of};
 
 use crate::Kind;
-use indexmap::IndexMap;
 use qk_ast::{Body, Pattern, Stmt};
 use qk_shared::Text;
 use std::alloc::{AllocError, Global};
-use std::marker::Model;
+use std::collections::BTreeMap;
 
-/// Declared names in order, each once. Contracts see them as a list of declarations, the latest at its end.
+/// Declared names, each with its kind. The table is ordered, so that no choice of names makes it slow.
 #[derive(Drop)]
 pub(crate) struct Declared<'a> {
-    kinds: IndexMap<&'a str, Kind>,
-}
-
-impl<'a> Model for Declared<'a> {
-    ghost use Rattle.std.specs.Prelude.{List};
-    ghost use Rattle.qk_ast.specs.Scopes.{Declaration};
-    ghost use Rattle.qk_locals.specs.Declaring.{entries_declared};
-
-    ghost Value = { List Declaration };
-
-    ghost view = { λ d. entries_declared d.kinds.entries };
+    kinds: BTreeMap<&'a str, Kind>,
 }
 
 impl<'a> Declared<'a> {
     /// Nothing yet. It takes no memory.
     pub(crate) fn new(alloc: Global) -> Declared<'a>
-        ensures { result ≡ [] }
+        ensures { (q : List ℕ) → declared_at result q ≡ None }
     {
         Declared {
-            kinds: IndexMap::new(alloc),
+            kinds: BTreeMap::new(alloc),
         }
     }
 
     /// How the name is declared, if it is.
     pub(crate) fn kind(&self, name: &str) -> Option<Kind>
-        ensures { option_map kind_of result ≡ kind_in name.now self.now }
+        ensures { option_map kind_of result ≡ declared_at self.now name.now }
     {
         self.kinds.get(name).copied()
     }
 
-    /// The name goes last unless it is there.
+    /// Declares the name, unless it is declared.
     pub(crate) fn add(&mut self, name: &'a str, kind: Kind) -> Result<(), AllocError>
-        ensures { OnOk result (self.new ≡ with_declaration self.old (record { name = name.now; kind = kind_of kind })) }
+        ensures { OnOk result ((q : List ℕ) → declared_at self.new q ≡ first_of (declared_at self.old q) (kind_in q (record { name = name.now; kind = kind_of kind } ∷ []))) }
     {
         if !self.kinds.contains_key(name) {
             self.kinds.insert(name, kind)?;
@@ -59,7 +49,7 @@ impl<'a> Declared<'a> {
 
     /// Each of the names, in order, as this kind.
     pub(crate) fn add_all(&mut self, names: &'a [Text], kind: Kind) -> Result<(), AllocError>
-        ensures { OnOk result (self.new ≡ with_declarations self.old (declared_as (kind_of kind) names.now)) }
+        ensures { OnOk result ((q : List ℕ) → declared_at self.new q ≡ first_of (declared_at self.old q) (kind_in q (declared_as (kind_of kind) names.now))) }
     {
         for name in names {
             self.add(name.as_str(), kind)?;
@@ -69,7 +59,7 @@ impl<'a> Declared<'a> {
 
     /// The names of a pattern.
     fn add_pattern(&mut self, pattern: &'a Pattern, kind: Kind) -> Result<(), AllocError>
-        ensures { OnOk result (self.new ≡ with_declarations self.old (declared_as (kind_of kind) (pattern_names pattern.now))) }
+        ensures { OnOk result ((q : List ℕ) → declared_at self.new q ≡ first_of (declared_at self.old q) (kind_in q (declared_as (kind_of kind) (pattern_names pattern.now)))) }
     {
         match pattern {
             Pattern::Name(name) => self.add(name.as_str(), kind),
@@ -84,7 +74,7 @@ impl<'a> Declared<'a> {
         params: &'a [Pattern],
         kind: Kind,
     ) -> Result<(), AllocError>
-        ensures { OnOk result (self.new ≡ with_declarations self.old (declared_as (kind_of kind) (patterns_names params.now))) }
+        ensures { OnOk result ((q : List ℕ) → declared_at self.new q ≡ first_of (declared_at self.old q) (kind_in q (declared_as (kind_of kind) (patterns_names params.now)))) }
     {
         for pattern in params {
             self.add_pattern(pattern, kind)?;
@@ -94,7 +84,7 @@ impl<'a> Declared<'a> {
 
     /// What a statement declares in its block.
     fn add_declared_by(&mut self, statement: &'a Stmt) -> Result<(), AllocError>
-        ensures { OnOk result (self.new ≡ with_declarations self.old (declarations_of statement.now)) }
+        ensures { OnOk result ((q : List ℕ) → declared_at self.new q ≡ first_of (declared_at self.old q) (kind_in q (declarations_of statement.now))) }
     {
         match statement {
             Stmt::Const(pattern, _) => self.add_pattern(pattern, Kind::Constant),
@@ -105,7 +95,7 @@ impl<'a> Declared<'a> {
 
     /// What the statements of a block declare there.
     pub(crate) fn add_block(&mut self, statements: &'a [Stmt]) -> Result<(), AllocError>
-        ensures { OnOk result (self.new ≡ with_declarations self.old (flat_map declarations_of statements.now)) }
+        ensures { OnOk result ((q : List ℕ) → declared_at self.new q ≡ first_of (declared_at self.old q) (kind_in q (flat_map declarations_of statements.now))) }
     {
         for statement in statements {
             self.add_declared_by(statement)?;
@@ -115,7 +105,7 @@ impl<'a> Declared<'a> {
 
     /// What the body of an arrow declares in the arrow's own scope.
     pub(crate) fn add_body(&mut self, body: &'a Body) -> Result<(), AllocError>
-        ensures { OnOk result (self.new ≡ with_declarations self.old (declarations_in body.now)) }
+        ensures { OnOk result ((q : List ℕ) → declared_at self.new q ≡ first_of (declared_at self.old q) (kind_in q (declarations_in body.now))) }
     {
         match body {
             Body::Value(_) => Ok(()),

@@ -9,8 +9,8 @@ ghost use Rattle.qk_locals.specs.Meanings.{kind_of, mark_of};
 ghost use Rattle.qk_locals.specs.Layers.{block_of, for_of};
 
 use crate::declared::Declared;
-use crate::{Kind, Mark, NameSet};
-use qk_ast::{Body, Pattern, Stmt};
+use crate::{Kind, Mark};
+use qk_ast::{Body, NameSet, Pattern, Stmt};
 use qk_shared::Text;
 use std::alloc::{AllocError, Global};
 use std::marker::Model;
@@ -34,17 +34,17 @@ pub(crate) struct Layer<'a> {
 }
 
 impl<'a> Model for Layer<'a> {
-    ghost use Rattle.std.specs.Prelude.{◌≡◌, [], map};
-    ghost use Rattle.qk_ast.specs.Scopes.{Scope};
+    ghost use Rattle.std.specs.Prelude.{◌≡◌, ℕ, List, [], map};
+    ghost use Rattle.qk_ast.specs.Scopes.{Scope, kind_in};
     ghost use Rattle.qk_ast.specs.Walking.{with_names};
-    ghost use Rattle.qk_locals.specs.Declaring.{with_declarations};
+    ghost use Rattle.qk_locals.specs.Declaring.{declared_at};
     ghost use Rattle.qk_locals.specs.Layers.{begun, behind_all};
 
     ghost Value = { Scope };
 
     ghost view = { λ s. behind_all (map (λ statement. statement.now) s.passed.items) (begun s.origin) };
 
-    ghost invariant = { λ s. (s.declared ≡ with_declarations [] (begun s.origin).declared)
+    ghost invariant = { λ s. ((q : List ℕ) → declared_at s.declared q ≡ kind_in q (begun s.origin).declared)
         × (s.ended ≡ with_names [] (behind_all (map (λ statement. statement.now) s.passed.items) (begun s.origin)).ended) };
 }
 

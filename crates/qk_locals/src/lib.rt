@@ -5,12 +5,10 @@ mod declared;
 mod layer;
 mod local;
 mod mark;
-mod name_set;
 mod scopes;
 
 pub use local::{Kind, Local};
 pub use mark::Mark;
-pub use name_set::NameSet;
 pub use scopes::Scopes;
 
 #[cfg(test)]

@@ -18,17 +18,6 @@ fn marks(rt: HostRuntime) -> Result<(), Fail> {
 }
 
 #[test]
-fn names(rt: HostRuntime) -> Result<(), Fail> {
-    let mut names = NameSet::new(rt.alloc());
-    assert!(rt; names.add("a")?);
-    assert!(rt; names.add("b")?);
-    assert!(rt; !names.add("a")?);
-    assert!(rt; names.has("b"));
-    assert!(rt; !names.has("c"));
-    Ok(())
-}
-
-#[test]
 fn lists_of_for(rt: HostRuntime) -> Result<(), Fail> {
     let name = Text::from_str(rt.alloc(), "a")?;
     let mut scopes = Scopes::new(rt.alloc());

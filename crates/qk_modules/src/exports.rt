@@ -1,34 +1,20 @@
 //! What modules export, and which import names more.
 
-ghost use Rattle.std.specs.Prelude.{◌≡◌, None, Some, ◌⊎◌, ℕ, List, IfOk, OnOk, IfErr, ◌||◌, ◌&&◌, not, map};
+ghost use Rattle.std.specs.Prelude.{◌≡◌, None, Some, ◌⊎◌, ℕ, List, IfOk, OnOk, IfErr, ◌||◌, ◌&&◌, not};
 ghost use Rattle.std.specs.Option.{option_copied, option_map};
 ghost use Rattle.std.specs.List.{find};
-ghost use Rattle.qk_ast.specs.Texts.{is_among, same_text};
+ghost use Rattle.qk_ast.specs.Texts.{same_text};
 ghost use Rattle.qk_modules.specs.Gathering as gathering;
 ghost use Rattle.qk_modules.specs.Gathering.{exported_in};
 ghost use Rattle.qk_modules.specs.Exporting.{has_pair, HoldsExports, is_in_set, unexported};
 
 use crate::names::{FRAMEWORK, named_by};
 use crate::{GatherFault, NamedModule};
-use qk_ast::{Import, Item};
+use qk_ast::framework::may_import;
+use qk_ast::{Form, Import, Item};
 use qk_shared::Text;
 use std::alloc::{AllocError, Global};
 use std::collections::BTreeSet;
-
-/// The names that a module may import from the framework.
-const FRAMEWORK_NAMES: [&str; 11] = [
-    "$",
-    "Slot",
-    "component$",
-    "createContextId",
-    "noSerialize",
-    "useComputed$",
-    "useContext",
-    "useContextProvider",
-    "useSignal",
-    "useStore",
-    "useTask$",
-];
 
 /// Tries that each imported name is exported, and `App` by the root.
 pub(crate) fn check_exports(alloc: Global, modules: &[NamedModule]) -> Result<(), GatherFault>
@@ -144,22 +130,10 @@ fn is_exported<'a>(exports: &BTreeSet<(&'a str, &'a str)>, source: &'a Text, nam
 {
     let (source, name) = (source.as_str(), name.as_str());
     if source == FRAMEWORK {
-        return is_one_of(name, &FRAMEWORK_NAMES);
+        return may_import(Form::Source, name);
     }
     match named_by(source) {
         Some(named) => exports.contains(&(named, name)),
         None => false,
     }
-}
-
-/// Whether the text is one of those.
-fn is_one_of(text: &str, texts: &[&str]) -> bool
-    ensures { result ≡ is_among text.now (map (λ t. t.now) texts.now) }
-{
-    for other in texts {
-        if text == *other {
-            return true;
-        }
-    }
-    false
 }

@@ -5,10 +5,11 @@ use Rattle.std.specs.Borrow.{Bor}
 use Rattle.std.proofs.Common.{ap, sym, subst, ◌∙◌, cond}
 use Rattle.std.proofs.lemmas.Bool.{false≢true}
 use Rattle.std.proofs.lemmas.List.{map-append, take_at}
-use Rattle.std.proofs.lemmas.Map.Text.{hash_map_updates_str}
-use Rattle.std.specs.HashMap as hash
+use Rattle.std.proofs.lemmas.Map.Text.{btree_map_updates_str}
+use Rattle.std.specs.Ordering.{nat_cmp}
+use Rattle.std.specs.Cmp.Lexicographic.{slice_cmp}
 use Rattle.std.specs.Map.{lookup}
-use Rattle.std.specs.HashMap.{HashMap}
+use Rattle.std.specs.BTreeMap.{BTreeMap, UpdatesBy, is_at}
 use Rattle.qk_ast.specs.declared.Module.{Module}
 use Rattle.qk_ast.specs.declared.Import.{Import}
 use Rattle.qk_ast.specs.declared.Item.{Item}
@@ -97,8 +98,8 @@ module_said (x ∷ modules) name q = one (same_text x.0 name) (module_said modul
 
 -- ---- the tables
 
-abbrev Tables_of : Type 0 → Type 0
-Tables_of S = HashMap (Bor (List ℕ)) Roots S
+abbrev Tables : Type 0
+Tables = BTreeMap (Bor (List ℕ)) Roots
 
 -- a module for which there is a table is among the modules, and no other
 both_there : (o : Option Roots) (m : Option Module) (b : Bool) (q : Text) → is_some o ≡ b → option_map (λ table. kind_by table q) o ≡ option_map (λ x. item_kind q x.items) m → is_some m ≡ b
@@ -119,7 +120,7 @@ stays None true m h = absurd (false≢true (h refl))
 stays None false m h = refl
 
 -- a module whose name was there
-pub module_again : {S : Type 0} (tables : Tables_of S) (modules all : List Named_module) (name : Text) (m : Module) → HoldsKinds tables modules → is_some (table_at tables name) ≡ true
+pub module_again : (tables : Tables) (modules all : List Named_module) (name : Text) (m : Module) → HoldsKinds tables modules → is_some (table_at tables name) ≡ true
     → all ≡ modules ++ (name, m) ∷ [] → HoldsKinds tables all
 module_again tables modules all name m holds there pushed = λ n q.
     let among : is_some (first_module modules name) ≡ true = both_there (table_at tables name) (first_module modules name) true q there (holds name q) in
@@ -135,24 +136,24 @@ entered false o (Some x) t m q fresh same h = h
 entered false o None t m q fresh same h = h
 
 -- a module with a new name
-pub module_entered : {S : Type 0} (old new : Tables_of S) (modules all : List Named_module) (key name : Text) (m : Module) (empty table : Roots) → key ≡ name → HoldsKinds old modules
+pub module_entered : (old new : Tables) (modules all : List Named_module) (key name : Text) (m : Module) (empty table : Roots) → key ≡ name → HoldsKinds old modules
     → is_some (table_at old key) ≡ false → ((q : Text) → kind_at empty q ≡ None) → ((q : Text) → kind_at table q ≡ earlier_of (kind_at empty q) (item_kinds m.items q))
-    → all ≡ modules ++ (name, m) ∷ [] → hash.UpdatesBy (λ x y. bytes_eq x.now y.now) (λ k. bytes_eq key k.now) old new (Some table) → HoldsKinds new all
+    → all ≡ modules ++ (name, m) ∷ [] → UpdatesBy (λ x y. slice_cmp nat_cmp x.now y.now) (λ k. slice_cmp nat_cmp key k.now) old new (Some table) → HoldsKinds new all
 module_entered old new modules all key name m empty table named holds absent begun made pushed updated = λ n q.
     let missing : is_some (first_module modules key) ≡ false = both_there (table_at old key) (first_module modules key) false q absent (holds key q) in
     let same : kind_by table q ≡ item_kind q m.items = ap kind_or_else (made q ∙ ap (λ o. earlier_of o (item_kinds m.items q)) (begun q)) ∙ items_say m.items q in
-    ap (option_map (λ t. kind_by t q)) (hash_map_updates_str key old new (Some table) updated n)
+    ap (option_map (λ t. kind_by t q)) (btree_map_updates_str key old new (Some table) updated n)
     ∙ entered (bytes_eq key n) (table_at old n) (first_module modules n) table m q (λ at. none_there (first_module modules n) (subst (λ (t : Text). is_some (first_module modules t) ≡ false) (text_is key n at) missing)) same (holds n q)
     ∙ ap (option_map (λ x. item_kind q x.items))
     (ap (λ (t : Text). or_last (first_module modules n) (same_text t n) m) named ∙ sym (found_more modules name m n) ∙ ap (λ l. first_module l n) (sym pushed))
 
 -- nothing has changed
-pub holds_still : {S : Type 0} (old new : Tables_of S) (modules all : List Named_module) → HoldsKinds old modules → new.entries ≡ old.entries → all ≡ modules → HoldsKinds new all
+pub holds_still : (old new : Tables) (modules all : List Named_module) → HoldsKinds old modules → new.entries ≡ old.entries → all ≡ modules → HoldsKinds new all
 holds_still old new modules all holds same_entries same = λ n q.
-    ap (λ es. option_map (λ t. kind_by t q) (lookup (λ k. bytes_eq n k.now) es)) same_entries ∙ holds n q ∙ ap (λ l. module_kind l n q) (sym same)
+    ap (λ es. option_map (λ t. kind_by t q) (lookup (is_at (λ k. slice_cmp nat_cmp n k.now)) es)) same_entries ∙ holds n q ∙ ap (λ l. module_kind l n q) (sym same)
 
 -- what an imported name is found to be
-pub table_says : {S : Type 0} (tables : Tables_of S) (modules : List Named_module) (name : Text) (found : Option (Bor Roots)) → HoldsKinds tables modules
+pub table_says : (tables : Tables) (modules : List Named_module) (name : Text) (found : Option (Bor Roots)) → HoldsKinds tables modules
     → option_map (λ t. t.now) found ≡ table_at tables name → (q : Text) → kind_from found q ≡ item_kind q (module_of modules name).items
 table_says tables modules name found holds is q =
     told found ∙ ap (λ o. kind_or_else (option_map (λ t. kind_by t q) o)) is ∙ ap kind_or_else (holds name q) ∙ module_said modules name q
@@ -162,7 +163,7 @@ table_says tables modules name found holds is q =
     told (Some t) = refl
 
 -- what a source's name is found to be
-pub source_says : {S : Type 0} (tables : Tables_of S) (modules all : List Named_module) (source name : Text) (found : Option (Bor Roots)) → HoldsKinds tables modules → modules ≡ all
+pub source_says : (tables : Tables) (modules all : List Named_module) (source name : Text) (found : Option (Bor Roots)) → HoldsKinds tables modules → modules ≡ all
     → same_text source framework ≡ false → name ≡ source_module source → option_map (λ t. t.now) found ≡ table_at tables name → (q : Text) → kind_from found q ≡ imported_kind all source q
 source_says tables modules all source name found holds viewed other named is q =
     table_says tables modules name found holds is q

@@ -6,9 +6,10 @@ use Rattle.std.specs.Borrow.{Bor}
 use Rattle.std.proofs.Common.{ap, sym, ◌∙◌, cond}
 use Rattle.std.proofs.Math.ListN.{get_or}
 use Rattle.std.proofs.lemmas.List.{at_drop_more, at_drop_all}
-use Rattle.std.proofs.lemmas.Map.Text.{hash_map_updates_str}
-use Rattle.std.specs.HashMap as hash
-use Rattle.std.specs.HashMap.{HashMap}
+use Rattle.std.proofs.lemmas.Map.Text.{btree_map_updates_str}
+use Rattle.std.specs.Ordering.{nat_cmp}
+use Rattle.std.specs.Cmp.Lexicographic.{slice_cmp}
+use Rattle.std.specs.BTreeMap.{BTreeMap, UpdatesBy, get_by}
 use Rattle.qk_ast.specs.Texts.{Text}
 use Rattle.qk_ast.specs.Placing.{Root_kind}
 use Rattle.qk_rules.specs.declared.items.RootKind.{RootKind}
@@ -33,16 +34,15 @@ mapped : (b : Bool) (kind : RootKind) (o : Option RootKind) → (b ≡ true → 
 mapped true kind o h = ap (λ (p : Option RootKind). earlier_of (option_map root_kind_of p) (Some (root_kind_of kind))) (sym (h refl))
 mapped false kind o h = sym (or_none (option_map root_kind_of o))
 
-module _ {S : Type 0} where
-  abbrev found : HashMap (Bor (List ℕ)) RootKind S → Text → Option RootKind
-  found table q = hash.get_by (λ k. bytes_eq q k.now) table
+abbrev found : BTreeMap (Bor (List ℕ)) RootKind → Text → Option RootKind
+found table q = get_by (λ k. slice_cmp nat_cmp q k.now) table
 
-  pub name_entered : (old new : HashMap (Bor (List ℕ)) RootKind S) (name : Text) (kind : RootKind)
-      → found old name ≡ None → hash.UpdatesBy (λ x y. bytes_eq x.now y.now) (λ k. bytes_eq name k.now) old new (Some kind)
-      → (q : Text) → option_map root_kind_of (found new q) ≡ earlier_of (option_map root_kind_of (found old q)) (one_kind name (root_kind_of kind) q)
-  name_entered old new name kind fresh updated q =
-      ap (option_map root_kind_of) (hash_map_updates_str name old new (Some kind) updated q)
-      ∙ mapped (bytes_eq name q) kind (found old q) (λ same. ap (found old) (sym (text_is name q same)) ∙ fresh)
+pub name_entered : (old new : BTreeMap (Bor (List ℕ)) RootKind) (name : Text) (kind : RootKind)
+    → found old name ≡ None → UpdatesBy (λ x y. slice_cmp nat_cmp x.now y.now) (λ k. slice_cmp nat_cmp name k.now) old new (Some kind)
+    → (q : Text) → option_map root_kind_of (found new q) ≡ earlier_of (option_map root_kind_of (found old q)) (one_kind name (root_kind_of kind) q)
+name_entered old new name kind fresh updated q =
+    ap (option_map root_kind_of) (btree_map_updates_str name old new (Some kind) updated q)
+    ∙ mapped (bytes_eq name q) kind (found old q) (λ same. ap (found old) (sym (text_is name q same)) ∙ fresh)
 
 -- ---- a list of names
 

@@ -1,8 +1,10 @@
 -- What the names of a root are, as the program keeps it: a table of kinds, in which the first kind that a name was given counts.
-use Rattle.std.specs.Prelude.{true, false, List, [], ◌∷◌, Option, Some, None, bytes_eq}
+use Rattle.std.specs.Prelude.{true, false, List, [], ◌∷◌, Option, Some, None}
 use Rattle.std.specs.Option.{option_map}
 use Rattle.std.specs.Borrow.{Bor}
-use Rattle.indexmap.specs.IndexMap.{get_by}
+use Rattle.std.specs.Ordering.{nat_cmp}
+use Rattle.std.specs.Cmp.Lexicographic.{slice_cmp}
+use Rattle.std.specs.BTreeMap.{get_by}
 use Rattle.qk_ast.specs.declared.Import.{Import}
 use Rattle.qk_ast.specs.declared.Item.{Item}
 use Rattle.qk_ast.specs.Texts.{Text, same_text}
@@ -42,7 +44,7 @@ import_kinds modules (i ∷ rest) q = earlier_of (name_kinds (imported_kind modu
 
 -- the kind that the table has for a name
 unfoldable pub kind_at : Roots → Text → Option Root_kind
-kind_at table q = option_map root_kind_of (get_by (λ k. bytes_eq q k.now) table.kinds)
+kind_at table q = option_map root_kind_of (get_by (λ k. slice_cmp nat_cmp q k.now) table.kinds)
 
 -- a name of which the table has nothing is something else
 abbrev pub kind_by : Roots → Text → Root_kind

@@ -6,8 +6,7 @@ ghost use Rattle.qk_ast.specs.Tags.{in_small_letters, is_attribute, is_listener}
 ghost use Rattle.qk_rules.specs.Attributes.{is_event};
 
 use crate::tags::{is_alone, is_listener};
-use qk_ast::{Expr, Tag};
-use qk_locals::NameSet;
+use qk_ast::{Expr, NameSet, Tag};
 use qk_shared::Text;
 use std::alloc::{AllocError, Global};
 use std::collections::BTreeSet;

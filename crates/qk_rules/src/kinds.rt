@@ -1,6 +1,6 @@
 //! What the roots of an application's modules have under their names.
 
-ghost use Rattle.std.specs.Prelude.{◌≡◌, ℕ, List, [], ◌∷◌, ◌++◌, OnOk, IfErr, IfOk};
+ghost use Rattle.std.specs.Prelude.{◌≡◌, ℕ, List, [], ◌∷◌, ◌++◌, OnOk, OnErr, IfErr, IfOk};
 ghost use Rattle.qk_ast.specs.Sources as sources;
 ghost use Rattle.qk_ast.specs.Placing.{imported_kind, root_kind};
 ghost use Rattle.qk_rules.specs.declared.fault.RuleFault.TheVariants.{Memory};
@@ -8,10 +8,10 @@ ghost use Rattle.qk_rules.specs.Root_table.{kind_at, kind_by, kind_from, earlier
 
 use crate::RuleFault;
 use crate::roots::Roots;
-use indexmap::IndexMap;
 use qk_ast::{Import, Module};
 use qk_shared::Text;
 use std::alloc::{AllocError, Global};
+use std::collections::BTreeMap;
 use std::marker::Model;
 
 /// The source of the framework.
@@ -20,12 +20,13 @@ const FRAMEWORK: &str = "@builder.io/qwik";
 /// Modules by their names, and what the roots of these have under theirs. Contracts see them as the list of the modules in the order in which
 /// they were added. Of modules with one name the first counts.
 ///
-/// Beside the list stands a table for each name, so that a name is looked up in few steps. Texts aren't copied.
+/// Beside the list stands a table for each name, so that a name is looked up in few steps. The tables are ordered, so that no choice of names makes
+/// them slow. Texts aren't copied.
 #[derive(Drop)]
 pub struct Kinds<'a> {
     alloc: Global,
     modules: Vec<(&'a Text, &'a Module)>,
-    tables: IndexMap<&'a [u8], Roots<'a>>,
+    tables: BTreeMap<&'a [u8], Roots<'a>>,
 }
 
 impl<'a> Model for Kinds<'a> {
@@ -52,7 +53,7 @@ impl<'a> Kinds<'a> {
         Kinds {
             alloc,
             modules: Vec::new(alloc),
-            tables: IndexMap::new(alloc),
+            tables: BTreeMap::new(alloc),
         }
     }
 
@@ -60,10 +61,11 @@ impl<'a> Kinds<'a> {
     ///
     /// # Errors
     ///
-    /// `Memory` for want of memory.
+    /// `Memory` for want of memory. The modules are then as they were.
     pub fn add(&mut self, name: &'a Text, m: &'a Module) -> Result<(), RuleFault>
         ensures added { OnOk result (self.new ≡ self.old ++ (name.now, m.now) ∷ []) }
         ensures want { IfErr result (λ fault. fault ≡ Memory) }
+        ensures kept { OnErr result (self.new ≡ self.old) }
     {
         match self.put(name, m) {
             Ok(()) => Ok(()),
@@ -72,7 +74,8 @@ impl<'a> Kinds<'a> {
     }
 
     fn put(&mut self, name: &'a Text, m: &'a Module) -> Result<(), AllocError>
-        ensures { OnOk result (self.new ≡ self.old ++ (name.now, m.now) ∷ []) }
+        ensures added { OnOk result (self.new ≡ self.old ++ (name.now, m.now) ∷ []) }
+        ensures kept { OnErr result (self.new ≡ self.old) }
     {
         let key = name.as_str().as_bytes();
         if self.tables.contains_key(key) {

@@ -6,15 +6,15 @@ ghost use Rattle.qk_rules.specs.Kinds_of_root.{root_kind_of};
 ghost use Rattle.qk_rules.specs.Root_table.{kind_at, kind_by, kind_from, earlier_of, one_kind, item_kinds, name_kinds};
 
 use crate::items::{RootKind, kind_of_value};
-use indexmap::IndexMap;
 use qk_ast::Item;
 use qk_shared::Text;
 use std::alloc::{AllocError, Global};
+use std::collections::BTreeMap;
 
-/// Names with their kinds. The first kind that a name is given counts.
+/// Names with their kinds. The first kind that a name is given counts. The table is ordered, so that no choice of names makes it slow.
 #[derive(Drop)]
 pub(crate) struct Roots<'a> {
-    kinds: IndexMap<&'a str, RootKind>,
+    kinds: BTreeMap<&'a str, RootKind>,
 }
 
 impl<'a> Roots<'a> {
@@ -23,7 +23,7 @@ impl<'a> Roots<'a> {
         ensures { (q : List ℕ) → kind_at result q ≡ None }
     {
         Roots {
-            kinds: IndexMap::new(alloc),
+            kinds: BTreeMap::new(alloc),
         }
     }
 

@@ -59,7 +59,7 @@ refuses form file m answer ScopeFault.Memory is h = subst (Resolves form file m)
 pub wants : (form : Form) (file : Text) (m : Module) (answer : Result Names ScopeFault) → answer ≡ Err ScopeFault.Memory → Resolves form file m answer
 wants form file m answer is = subst (Resolves form file m) (sym is) want
 
-pub resolved : (form : Form) (file : Text) (m : Module) (names : Names) → names.captures ≡ captured_in file m
+pub resolved : (form : Form) (file : Text) (m : Module) (names : Names) → names.captures ≡ captured_in form file m
     → Answers {T = Unit {0}} (all_naming_breaches form file m) (Ok tt) → Resolves form file m (Ok names)
 unfolding Answers
 resolved form file m names captured none = subst (λ c. Resolves form file m (Ok (record { captures = c }))) (sym captured) (all none)

@@ -11,6 +11,6 @@ use Rattle.qk_scope.specs.declared.resolver.Names.{Names}
 
 -- what `resolve` answers for a module or built file of that name: the captures where nothing breaks a rule of names, else the first breach
 pub data Resolves (form : Form) (file : Text) (m : Module) : Result Names ScopeFault → Type 0 where
-  all : all_naming_breaches form file m ≡ [] → Resolves form file m (Ok (record { captures = captured_in file m }))
+  all : all_naming_breaches form file m ≡ [] → Resolves form file m (Ok (record { captures = captured_in form file m }))
   refused : {first : Naming_breach} {rest : List Naming_breach} → all_naming_breaches form file m ≡ first ∷ rest → Resolves form file m (Err (Refused first.kind first.name))
   want : Resolves form file m (Err Memory)

@@ -10,9 +10,9 @@ ghost use Rattle.qk_scope.specs.Answering.{Answers, declared_breaches};
 
 use crate::ScopeFault;
 use crate::fault::refusal;
-use crate::framework::is_taken;
-use qk_ast::{Pattern, ScopeKind};
-use qk_locals::{NameSet, Scopes};
+use qk_ast::framework::is_taken;
+use qk_ast::{NameSet, Pattern, ScopeKind};
+use qk_locals::Scopes;
 use qk_shared::Text;
 
 /// Refuses the name as declared before or taken, if it is.

@@ -9,11 +9,10 @@ ghost use Rattle.qk_scope.specs.Answering.{Answers, breaches};
 
 use crate::ScopeFault;
 use crate::declaring::refuse_if;
-use crate::framework::{is_taken, may_import};
 use crate::rules::Rules;
 use crate::symbols::is_symbol;
-use qk_ast::{Form, Import};
-use qk_locals::NameSet;
+use qk_ast::framework::{is_taken, may_import};
+use qk_ast::{Form, Import, NameSet};
 use qk_shared::Text;
 
 /// The source of the framework.

@@ -9,11 +9,10 @@ ghost use Rattle.qk_scope.specs.Answering.{Answers, breaches};
 
 use crate::ScopeFault;
 use crate::declaring::refuse_if;
-use crate::framework::is_taken;
 use crate::rules::Rules;
 use crate::symbols::{is_segment, is_symbol};
-use qk_ast::Form;
-use qk_locals::NameSet;
+use qk_ast::framework::is_taken;
+use qk_ast::{Form, NameSet};
 use qk_shared::Text;
 
 /// Whether the name spells a symbol and isn't that of a segment's own item.

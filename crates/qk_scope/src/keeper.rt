@@ -14,11 +14,13 @@ ghost use Rattle.qk_scope.specs.Parts as parts;
 use crate::ScopeFault;
 use crate::declaring::{declare_pattern, declare_patterns, is_refused, refuse_if};
 use crate::fault::refusal;
-use crate::framework::{is_fixed, is_taken};
 use crate::rules::Rules;
 use crate::using::{breach_of_local, breach_of_root};
-use qk_ast::{Arrow, Body, Expr, Field, Jsx, Link, Operand, Pattern, ScopeKind, Stmt, Tag};
-use qk_locals::{Mark, NameSet, Scopes};
+use qk_ast::framework::{is_fixed, is_taken};
+use qk_ast::{
+    Arrow, Body, Expr, Field, Jsx, Link, NameSet, Operand, Pattern, ScopeKind, Stmt, Tag,
+};
+use qk_locals::{Mark, Scopes};
 use qk_shared::Text;
 use std::alloc::Global;
 

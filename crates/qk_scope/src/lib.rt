@@ -3,7 +3,6 @@
 
 mod declaring;
 mod fault;
-mod framework;
 mod importing;
 mod items;
 mod keeper;

@@ -14,9 +14,9 @@ use crate::items::item_name;
 use crate::keeper::Keeper;
 use crate::roots::root_names;
 use crate::rules::Rules;
-use qk_ast::{Form, Item, Module};
+use qk_ast::{Form, Item, Module, NameSet};
 use qk_captures::{Captured, captures};
-use qk_locals::{Mark, NameSet};
+use qk_locals::Mark;
 use qk_shared::{List, Text};
 use std::alloc::Global;
 
@@ -36,7 +36,7 @@ pub fn resolve(alloc: Global, file: &Text, m: &Module, form: Form) -> Result<Nam
 {
     keeps_names(alloc, file, m, form)?;
     Ok(Names {
-        captures: captures(alloc, file, m)?,
+        captures: captures(alloc, file, m, form)?,
     })
 }
 

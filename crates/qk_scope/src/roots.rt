@@ -8,8 +8,7 @@ ghost use Rattle.qk_ast.specs.Walking.{with_names};
 ghost use Rattle.qk_scope.specs.RootNames.{own_names};
 
 use crate::symbols::is_segment;
-use qk_ast::{Form, Import, Item, Module};
-use qk_locals::NameSet;
+use qk_ast::{Form, Import, Item, Module, NameSet};
 use qk_shared::Text;
 use std::alloc::{AllocError, Global};
 

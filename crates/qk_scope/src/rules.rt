@@ -1,7 +1,6 @@
 //! What the rules of names are about, beside the scopes around a place.
 
-use qk_ast::Form;
-use qk_locals::NameSet;
+use qk_ast::{Form, NameSet};
 use qk_shared::Text;
 use std::alloc::Global;
 

@@ -8,10 +8,11 @@ use Rattle.qk_parse.specs.declared.parse.ParseFault.{ParseFault}
 use Rattle.qk_parse.specs.declared.parse.ParseFault.TheVariants as parse
 use Rattle.qk_modules.specs.declared.place.Place.{Place}
 use Rattle.qk_modules.specs.declared.fault.GatherFault.{GatherFault}
-use Rattle.qk_modules.specs.declared.fault.GatherFault.TheVariants.{RootMissing, ImportMissing, ExportMissing, NotUtf8, Parse, TooMany, Store, Memory}
+use Rattle.qk_modules.specs.declared.fault.GatherFault.TheVariants as gathering
+use Rattle.qk_modules.specs.declared.fault.GatherFault.TheVariants.{RootMissing, ImportMissing, ExportMissing, NotUtf8, Parse, TooMany, Store}
 use Rattle.qk_modules.specs.Gathering.{root}
 use Rattle.qk_application.specs.declared.fault.ApplicationFault.{ApplicationFault}
-use Rattle.qk_application.specs.declared.fault.ApplicationFault.TheVariants.{Gathering, Naming, Placing}
+use Rattle.qk_application.specs.declared.fault.ApplicationFault.TheVariants.{Gathering, Naming, Placing, Memory}
 use Rattle.qk_meaning.specs.Value.{Text}
 use Rattle.qk_meaning.specs.Output.{line}
 use Rattle.qk_top.specs.Places.{place_text}
@@ -67,10 +68,11 @@ said_of_gathering (NotUtf8 m) = Some (record { kind = codes "NotUtf8"; «module�
 said_of_gathering (Parse m fault place) = said_of_text m fault place
 said_of_gathering TooMany = Some (of_root (codes "TooMany"))
 said_of_gathering Store = None
-said_of_gathering Memory = None
+said_of_gathering gathering.Memory = None
 
 -- Nothing is said where the store failed or memory ran out: then the application isn't refused.
 abbrev pub said_of : ApplicationFault → Option Said
 said_of (Gathering fault) = said_of_gathering fault
 said_of (Naming m kind name) = Some (record { kind = scope_kind kind; «module» = m; what = name })
 said_of (Placing m kind name) = Some (record { kind = rule_kind kind; «module» = m; what = name })
+said_of Memory = None

@@ -23,6 +23,7 @@ pub(crate) fn stop_for(alloc: Global, fault: ApplicationFault) -> Stop
         ApplicationFault::Placing { module, kind, name } => {
             refused(Kind::Placing(kind), module, What::Name(name))
         }
+        ApplicationFault::Memory => Stop::Memory,
     }
 }
 

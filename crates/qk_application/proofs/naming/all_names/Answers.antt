@@ -1,8 +1,7 @@
 use Rattle.std.proofs.Common.{rules, ◌≡◌}
 use Rattle.std.specs.Prelude.{Err}
 use Rattle.qk_ast.specs.Application.{naming_of}
-use Rattle.qk_modules.specs.declared.fault.GatherFault.TheVariants.{Memory}
-use Rattle.qk_application.specs.declared.fault.ApplicationFault.TheVariants.{Gathering}
+use Rattle.qk_application.specs.declared.fault.ApplicationFault.TheVariants.{Memory}
 use Rattle.qk_application.specs.Accepting.{want, names_of}
 use Rattle.qk_application.proofs.Judged.{none_broken, kept_on, fails_there, handed_on, more_names, names_done}
 use Rattle.qk_application.proofs.naming.all_names.Goals as goal
@@ -14,7 +13,7 @@ returns-in_err-names c =
 
 pub returns-in_err-push : goal.returns-in_err-push
 returns-in_err-push c =
-    let e : c.from_residual-in_err-push.result ≡ Err (Gathering Memory) = search rules in
+    let e : c.from_residual-in_err-push.result ≡ Err Memory = search rules in
     handed_on _ _ _ _ e want
 
 pub loop-module-preserved : goal.loop-module-preserved
@@ -26,7 +25,7 @@ loop-module-preserved c =
 
 pub returns-in_err-into_list : goal.returns-in_err-into_list
 returns-in_err-into_list c =
-    let e : c.from_residual-in_err-into_list.result ≡ Err (Gathering Memory) = search rules in
+    let e : c.from_residual-in_err-into_list.result ≡ Err Memory = search rules in
     handed_on _ _ _ _ e want
 
 pub returns : goal.returns

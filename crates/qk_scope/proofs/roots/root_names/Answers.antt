@@ -1,7 +1,7 @@
 use Rattle.std.proofs.Common.{[], sym, ap, ◌∙◌}
 use Rattle.qk_ast.specs.Mentions.{import_names}
 use Rattle.qk_ast.specs.Walking.{with_names}
-use Rattle.qk_locals.proofs.Names.{with_both}
+use Rattle.qk_ast.proofs.NameSets.{with_both}
 use Rattle.qk_scope.specs.RootNames.{own_names}
 use Rattle.qk_scope.proofs.roots.root_names.Goals as goal
 

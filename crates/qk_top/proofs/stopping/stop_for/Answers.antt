@@ -12,3 +12,6 @@ returns-in-Naming c = refused_stops c.args.fault _ _ _ c.refused.result (ap said
 
 pub returns-in-Placing : goal.returns-in-Placing
 returns-in-Placing c = refused_stops c.args.fault _ _ _ c.refused-in-Placing.result (ap said_of c.in-Placing.is) c.refused-in-Placing.ensures
+
+pub returns-in-Memory : goal.returns-in-Memory
+returns-in-Memory c = λ e. let i = c.in-Memory.is in cc

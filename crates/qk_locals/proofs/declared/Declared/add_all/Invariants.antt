@@ -1,8 +1,9 @@
-use Rattle.std.specs.Prelude.{◌≡◌, drop}
-use Rattle.qk_ast.specs.Scopes.{declared_as}
+use Rattle.std.specs.Prelude.{◌≡◌, ℕ, List, drop}
+use Rattle.qk_ast.specs.Scopes.{kind_in, declared_as}
 use Rattle.qk_locals.specs.Meanings.{kind_of}
-use Rattle.qk_locals.specs.Declaring.{with_declarations}
+use Rattle.qk_locals.specs.Declaring.{declared_at, first_of}
 use Rattle.qk_locals.proofs.declared.Declared.add_all.Given as goal
 
 abbrev pub invariant-loop-name : goal.invariant-loop-name
-invariant-loop-name l = with_declarations l.self (declared_as (kind_of l.kind) (drop l.name-index l.names)) ≡ with_declarations l.initial.self (declared_as (kind_of l.kind) l.names)
+invariant-loop-name l = (q : List ℕ) → first_of (declared_at l.self q) (kind_in q (declared_as (kind_of l.kind) (drop l.name-index l.names)))
+    ≡ first_of (declared_at l.initial.self q) (kind_in q (declared_as (kind_of l.kind) l.names))

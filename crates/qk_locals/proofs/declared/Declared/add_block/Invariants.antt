@@ -1,7 +1,8 @@
-use Rattle.std.specs.Prelude.{◌≡◌, drop, flat_map}
-use Rattle.qk_ast.specs.Scopes.{declarations_of}
-use Rattle.qk_locals.specs.Declaring.{with_declarations}
+use Rattle.std.specs.Prelude.{◌≡◌, ℕ, List, drop, flat_map}
+use Rattle.qk_ast.specs.Scopes.{kind_in, declarations_of}
+use Rattle.qk_locals.specs.Declaring.{declared_at, first_of}
 use Rattle.qk_locals.proofs.declared.Declared.add_block.Given as goal
 
 abbrev pub invariant-loop-statement : goal.invariant-loop-statement
-invariant-loop-statement l = with_declarations l.self (flat_map declarations_of (drop l.statement-index l.statements)) ≡ with_declarations l.initial.self (flat_map declarations_of l.statements)
+invariant-loop-statement l = (q : List ℕ) → first_of (declared_at l.self q) (kind_in q (flat_map declarations_of (drop l.statement-index l.statements)))
+    ≡ first_of (declared_at l.initial.self q) (kind_in q (flat_map declarations_of l.statements))
