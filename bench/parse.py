@@ -4,7 +4,8 @@
 ours      `qk_reprint root.jsx`: reads the file, parses it and prints the module as built files have it, the output thrown away
 esbuild   `esbuild --jsx=preserve --loader:.jsx=jsx`, one thread, its output thrown away
 Each figure is the least processor time of many runs of the whole process. `growth` is the time of the row over that of the row before, less the start of the
-process (an empty module); 4.0 is linear. `memory` is the greatest resident size less that of an empty module, in bytes a byte of text."""
+process (an empty module); 4.0 is linear. `memory` is the greatest resident size less that of an empty module, in bytes a byte of text, as /usr/bin/time tells it:
+of a child of this process the system would count the size of this one too."""
 import os, shutil, subprocess, sys, tempfile
 
 sys.dont_write_bytecode = True
@@ -53,18 +54,23 @@ def module(size):
     return IMPORT + pages(PAGE, size - len(IMPORT))
 
 
-def run(command, folder):
-    """The processor seconds of a run, and its greatest resident size in KiB."""
+def seconds(command, folder):
+    """The processor seconds of a run."""
     child = subprocess.Popen(command, cwd=folder, stdout=subprocess.DEVNULL, stderr=subprocess.DEVNULL,
                              env={**os.environ, "GOMAXPROCS": "1"})
     _, _, used = os.wait4(child.pid, 0)
     child.returncode = 0
-    return used.ru_utime + used.ru_stime, used.ru_maxrss
+    return used.ru_utime + used.ru_stime
 
 
-def best(command, folder, runs=20):
-    results = [run(command, folder) for _ in range(runs)]
-    return min(r[0] for r in results) * 1000, min(r[1] for r in results)
+def size(command, folder):
+    """The greatest resident size of a run, in KiB."""
+    told = subprocess.run(["/usr/bin/time", "-f", "%M", *command], cwd=folder, stdout=subprocess.DEVNULL, stderr=subprocess.PIPE, text=True)
+    return int(told.stderr.split()[-1])
+
+
+def best(measure, command, folder, runs=20):
+    return min(measure(command, folder) for _ in range(runs))
 
 
 OURS = [program, "root.jsx"]
@@ -76,7 +82,7 @@ with tempfile.TemporaryDirectory() as folder:
             out.write(text)
 
     write("root.jsx", "")
-    start, bare = best(OURS, folder)
+    start, bare = best(seconds, OURS, folder) * 1000, best(size, OURS, folder, 3)
     print(f"start of our process, an empty module: {start:.2f} ms")
     print("| KiB | ours, ms | MB/s | growth | memory | esbuild, ms | MB/s |")
     print("|---|---|---|---|---|---|---|")
@@ -84,11 +90,11 @@ with tempfile.TemporaryDirectory() as folder:
     for kib in (64, 256, 1024):
         text = module(kib * 1024)
         write("root.jsx", text)
-        whole, size = best(OURS, folder)
+        whole, resident = best(seconds, OURS, folder) * 1000, best(size, OURS, folder, 3)
         work = whole - start
         growth = "" if before is None else f"{work / before:.2f}"
-        memory = (size - bare) * 1024 / len(text)
-        theirs = best(THEIRS, folder)[0] if THEIRS else None
+        memory = (resident - bare) * 1024 / len(text)
+        theirs = best(seconds, THEIRS, folder) * 1000 if THEIRS else None
         speed = lambda ms: f"{len(text) / ms / 1000:.1f}"
         print(f"| {kib} | {whole:.2f} | {speed(whole)} | {growth} | {memory:.0f} | " + (f"{theirs:.2f} | {speed(theirs)} |" if theirs else "- | - |"))
         before = work
