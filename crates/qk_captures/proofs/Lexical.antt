@@ -3,12 +3,10 @@ use Rattle.std.specs.Prelude.{◌≡◌, refl, List, [], ◌∷◌}
 use denote.Hole.Carrier.{hidden}
 use Rattle.qk_ast.specs.declared.Body.TheBlock.{hidden-the_row-Stmt-1, shape-the_row-Arrow-6, hidden-the_row-Arrow-6}
 use Rattle.qk_ast.specs.declared.Arrow.{Arrow}
-use Rattle.qk_ast.specs.declared.Expr.{Expr, more_of-Arrow}
 use Rattle.qk_ast.specs.declared.Expr.TheVariants as e
 use Rattle.qk_ast.specs.declared.Pattern.{Pattern}
 use Rattle.qk_ast.specs.declared.Stmt.{Stmt, Block' as Statement_block'}
 use Rattle.qk_ast.specs.declared.Body.TheVariants as b
-use Rattle.qk_ast.specs.Texts.{Text}
 use Rattle.qk_ast.specs.Names.{row_scope_names, scope_names}
 use Rattle.qk_captures.specs.Capturing.{names_around}
 use Rattle.qk_captures.specs.Scoping.{first_names}

@@ -9,10 +9,13 @@ use Rattle.qk_ast.specs.declared.Module.{Module}
 use Rattle.qk_ast.specs.Texts.{Text}
 use Rattle.qk_ast.specs.Names.{around}
 use Rattle.qk_ast.specs.Arrows.{Unmarked, Found_arrow, arrows, item_arrows, is_dollar, same_kind, of_kind}
+use Rattle.qk_node.specs.Nodes.{plain}
+use Rattle.qk_node.specs.Growing.{tree}
+use Rattle.qk_node.proofs.Same_arrows.{same_arrows}
 use Rattle.qk_captures.specs.declared.walk.Walk.{Walk}
 use Rattle.qk_captures.specs.Scoping.{in_scope}
 use Rattle.qk_captures.specs.Capturing.{names_around, built_arrows, arrows_of, captured_after, captured_in}
-use Rattle.qk_captures.specs.Walking.{note_of, noted, all_noted, one_more, count_of, captured, behind, each_found, item_found}
+use Rattle.qk_captures.specs.Walking.{note_of, noted, all_noted, one_more, count_of, captured, behind, items_found}
 use Rattle.qk_captures.proofs.Scopes.{same_alone}
 use Rattle.qk_captures.proofs.Alike.{notes, joined, alike}
 
@@ -45,27 +48,27 @@ found_after (a ∷ rest) before w dollar plain = found_after rest (before ++ a �
     ∙ ap (λ n. w.found ++ captured w.file.now n (note_of a) ∷ captured_after w.file.now (before ++ a ∷ []) rest)
     (ap (λ n. count_of (is_dollar a) n w.plain) dollar ∙ ap (count_of (is_dollar a) (length (of_kind true before))) plain ∙ count_is (is_dollar a) before)
 
-items_row : (items : List Item) → each_found (item_found Source) items [] ≡ item_arrows items
+items_row : (items : List Item) → items_found Source items [] ≡ item_arrows items
 items_row [] = refl
 items_row (i ∷ items) = ap (λ found. arrows i.init Unmarked [] ++ found) (items_row items)
 
 -- in a built file the walk has the names around an item in the other order
-built_row : (items : List Item) → notes (each_found (item_found Built) items []) ≡ notes (built_arrows items)
+built_row : (items : List Item) → notes (items_found Built items []) ≡ notes (built_arrows items)
 built_row [] = refl
 built_row (i ∷ items) = let names = names_around i.init in
-    joined (arrows i.init Unmarked (around names [])) (arrows i.init Unmarked names) (each_found (item_found Built) items []) (built_arrows items)
-    (alike i.init Unmarked (around names []) names (same_alone names)) (built_row items)
+    joined (arrows i.init Unmarked (around names [])) (arrows i.init Unmarked names) (items_found Built items []) (built_arrows items)
+    (ap notes (sym (same_arrows i.init Unmarked (around names []))) ∙ alike (tree (plain i.init)) (around names []) names (same_alone names) ∙ ap notes (same_arrows i.init Unmarked names)) (built_row items)
 
-row : (form : Form) (m : Module) → notes (each_found (item_found form) m.items []) ≡ notes (arrows_of form m)
+row : (form : Form) (m : Module) → notes (items_found form m.items []) ≡ notes (arrows_of form m)
 row Source m = ap notes (items_row m.items)
 row Built m = built_row m.items
 
 -- a walk that begins with nothing
 pub found_from_nothing : (form : Form) (m : Module) (file : Text) (start done : Walk) → start.file.now ≡ file → in_scope start.scope ≡ [] → start.dollar ≡ 0 → start.plain ≡ 0 → start.found ≡ []
-    → done ≡ behind (each_found (item_found form) m.items) start → done.found ≡ captured_in form file m
+    → done ≡ behind (items_found form m.items) start → done.found ≡ captured_in form file m
 unfolding behind
 found_from_nothing form m file start done named scope dollar plain found walked = ap (λ w. w.found) walked
-    ∙ ap (λ names. (all_noted (map note_of (each_found (item_found form) m.items names)) start).found) scope
+    ∙ ap (λ names. (all_noted (map note_of (items_found form m.items names)) start).found) scope
     ∙ ap (λ ns. (all_noted ns start).found) (row form m)
     ∙ found_after (arrows_of form m) [] start dollar plain
     ∙ ap (λ all. all ++ captured_after start.file.now [] (arrows_of form m)) found

@@ -5,14 +5,21 @@ use Rattle.std.proofs.lemmas.List.{at_drop_more}
 use Rattle.std.proofs.lemmas.Cmp.{nat_list_eq_equiv}
 use Rattle.std.proofs.Math.ListN.{get_or}
 use Rattle.std.specs.Cmp.Lexicographic.{same_text as told_same}
+use denote.Hole.Carrier.{hidden as hidden_in}
+use Rattle.qk_ast.specs.declared.Body.TheBlock.{shape-the_row-Arrow-6, hidden-the_row-Arrow-6}
+use Rattle.qk_ast.specs.declared.Arrow.{Arrow}
+use Rattle.qk_ast.specs.declared.Expr.TheVariants as e
+use Rattle.qk_ast.specs.declared.Expr.{Expr, more_of-Arrow}
 use Rattle.qk_ast.specs.declared.Pattern.{Pattern}
+use Rattle.qk_node.specs.Nodes.{Node, Value, Block, For_block}
+use Rattle.qk_node.specs.Found.{scope_inside}
 use Rattle.qk_ast.specs.Texts.{Text, same_text}
-use Rattle.qk_ast.specs.Names.{is_listed, around, others_than, those_of, patterns_names}
+use Rattle.qk_ast.specs.Names.{is_listed, around, others_than, those_of, patterns_names, body_names}
 use Rattle.qk_ast.specs.Arrows as arrows
-use Rattle.qk_ast.specs.Walking.{with_name, with_names}
+use Rattle.qk_ast.specs.Walking.{with_name, with_names, names_declared}
 use Rattle.qk_ast.proofs.Bound.{listed_inside, outer_kept}
 use Rattle.qk_captures.specs.declared.scope.Scope.{Scope}
-use Rattle.qk_captures.specs.Scoping.{track, shown, in_scope, with_one, with_all, inside_arrow, outside_of, back_to}
+use Rattle.qk_captures.specs.Scoping.{track, shown, in_scope, with_one, with_all, inside_arrow, entered, outside_of, back_to}
 
 -- two lists list the same names
 pub Same : List Text → List Text → Type 0
@@ -166,12 +173,48 @@ back_from_arrow arrows.Marked params s = back_from_all (patterns_names params) s
 back_from_arrow arrows.Tasked [] s = back_from_all [] s
 back_from_arrow arrows.Tasked (p ∷ rest) s = λ j. record { names = outer_kept s.names [] j; track = s.track }
 
--- ---- names one after another
+-- ---- a node of the tree
 
 pub with_both : (xs ys : List Text) (s : Scope) → with_all (xs ++ ys) s ≡ with_all ys (with_all xs s)
 unfolding with_all
 with_both [] ys s = refl
 with_both (x ∷ xs) ys s = with_both xs ys (with_one x s)
+
+same_all : (s : List Text) → Same s s
+unfolding Same
+same_all s q = refl
+
+pub same_scope : (n : Node) (s t : List Text) → Same s t → Same (scope_inside n s) (scope_inside n t)
+same_scope (Value (Expr.Arrow' _ (more_of-Arrow place params body _)) mark) s t h =
+    same_around (body_names body) (arrows.inner_scope mark params s) (arrows.inner_scope mark params t) (same_inside mark params s t h)
+same_scope (Block ss) s t h = same_around (names_declared ss) s t h
+same_scope (For_block name ss) s t h = same_around (names_declared ss) (name ∷ s) (name ∷ t) (same_front name s t h)
+same_scope _ s t h = h
+
+pub in_scope_entered : (n : Node) (s : Scope) → Same (in_scope (entered n s)) (scope_inside n (in_scope s))
+in_scope_entered (Value (Expr.Arrow' _ (more_of-Arrow place params body _)) mark) s =
+    let inner = inside_arrow mark params s in
+    same_both (in_scope (with_all (body_names body) inner)) (around (body_names body) (in_scope inner)) (around (body_names body) (arrows.inner_scope mark params (in_scope s)))
+    (in_scope_all (body_names body) inner) (same_around (body_names body) (in_scope inner) (arrows.inner_scope mark params (in_scope s)) (in_scope_inside mark params s))
+in_scope_entered (Block ss) s = in_scope_all (names_declared ss) s
+in_scope_entered (For_block name ss) s = same_both (in_scope (with_all (names_declared ss) (with_one name s))) (around (names_declared ss) (in_scope (with_one name s))) (around (names_declared ss) (name ∷ in_scope s))
+    (in_scope_all (names_declared ss) (with_one name s)) (same_around (names_declared ss) (in_scope (with_one name s)) (name ∷ in_scope s) (in_scope_next name s))
+in_scope_entered _ s = same_all (in_scope s)
+
+-- back from an arrow's parameters and the names of its body
+back_from_function : (mark : arrows.Mark) (params : List Pattern) (names : List Text) (s : Scope) → back_to (outside_of s) (with_all names (inside_arrow mark params s)) ≡ s
+unfolding with_all
+back_from_function arrows.Unmarked params names s = ap (back_to (outside_of s)) (sym (with_both (patterns_names params) names s)) ∙ back_from_all (patterns_names params ++ names) s
+back_from_function arrows.Marked params names s = ap (back_to (outside_of s)) (sym (with_both (patterns_names params) names s)) ∙ back_from_all (patterns_names params ++ names) s
+back_from_function arrows.Tasked [] names s = back_from_all names s
+back_from_function arrows.Tasked (p ∷ rest) names s = λ j. record { names = (ap (take (length s.names)) (names_all names (record { names = s.names; track = false })) ∙ outer_kept s.names names) j; track = s.track }
+
+pub back_from_entered : (n : Node) (s : Scope) → back_to (outside_of s) (entered n s) ≡ s
+unfolding with_all
+back_from_entered (Value (Expr.Arrow' _ (more_of-Arrow place params body _)) mark) s = back_from_function mark params (body_names body) s
+back_from_entered (Block ss) s = back_from_all (names_declared ss) s
+back_from_entered (For_block name ss) s = back_from_all (name ∷ names_declared ss) s
+back_from_entered _ s = back_from_all [] s
 
 -- with the names of one item more
 pub scope_next : {X : Type 0} (F : List X → List Text) (f : X → List Text) → ((x : X) (xs : List X) → F (x ∷ xs) ≡ f x ++ F xs)
@@ -186,3 +229,7 @@ those_next s xs i x below here = within (is_listed x s) ∙ ap (λ y. those_of s
     within : (b : Bool) → elim b [ true ↦ x ∷ [] | false ↦ [] ] ++ those_of s (drop (i + 1) xs) ≡ elim b [ true ↦ x ∷ those_of s (drop (i + 1) xs) | false ↦ those_of s (drop (i + 1) xs) ]
     within true = refl
     within false = refl
+
+pub entered_arrow : (a : Arrow) (mark : arrows.Mark) (s : Scope) → entered (Value (e.Arrow a) mark) s ≡ with_all (body_names a.body) (inside_arrow mark a.params s)
+unfolding shape-the_row-Arrow-6 hidden-the_row-Arrow-6 hidden_in
+entered_arrow a mark s = refl

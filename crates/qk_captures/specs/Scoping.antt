@@ -1,14 +1,15 @@
 -- The names in scope as the walk keeps them: all that were entered, each once, and apart from them whether `track` is in scope.
 use Rattle.std.specs.Prelude.{Bool, true, false, ◌||◌, List, [], ◌∷◌, codes, length, take, flat_map}
-use Rattle.qk_ast.specs.declared.Expr.{Expr}
+use Rattle.qk_ast.specs.declared.Expr.{Expr, more_of-Arrow}
 use Rattle.qk_ast.specs.declared.Form.{Form}
 use Rattle.qk_ast.specs.declared.Form.TheVariants.{Source, Built}
 use Rattle.qk_ast.specs.declared.Pattern.{Pattern}
 use Rattle.qk_ast.specs.declared.Stmt.{Stmt}
 use Rattle.qk_ast.specs.Texts.{Text, same_text}
-use Rattle.qk_ast.specs.Names.{others_than, patterns_names, declared_by}
+use Rattle.qk_ast.specs.Names.{others_than, patterns_names, declared_by, body_names}
 use Rattle.qk_ast.specs.Arrows as arrows
 use Rattle.qk_ast.specs.Walking.{with_name}
+use Rattle.qk_node.specs.Nodes.{Node, Value, Block, For_block}
 use Rattle.qk_captures.specs.declared.scope.Scope.{Scope}
 use Rattle.qk_captures.specs.declared.scope.Outside.{Outside}
 use Rattle.qk_captures.specs.Capturing.{names_around}
@@ -45,6 +46,13 @@ inside_arrow mark params s = with_all (patterns_names params) s
 -- the names that statements declare in their block
 abbrev pub block_names : List Stmt → List Text
 block_names statements = flat_map declared_by statements
+
+-- inside a node of the tree
+abbrev pub entered : Node → Scope → Scope
+entered (Value (Expr.Arrow' _ (more_of-Arrow place params body _)) mark) s = with_all (body_names body) (inside_arrow mark params s)
+entered (Block ss) s = with_all (block_names ss) s
+entered (For_block name ss) s = with_all (block_names ss) (with_one name s)
+entered _ s = s
 
 -- the names of the `useLexicalScope` with which statements begin
 abbrev pub first_names : List Stmt → List Text

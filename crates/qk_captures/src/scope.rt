@@ -1,13 +1,15 @@
 //! The names in scope at a place.
 
 ghost use Rattle.std.specs.Prelude.{◌≡◌, [], ◌∷◌, ◌++◌, OnOk, IfOk};
-ghost use Rattle.qk_ast.specs.Names.{is_listed, those_of, pattern_names, patterns_names, declared_by, scope_names};
+ghost use Rattle.qk_ast.specs.Names.{is_listed, those_of, pattern_names, patterns_names, declared_by, body_names, scope_names};
 ghost use Rattle.qk_locals.specs.Meanings.{mark_of};
+ghost use Rattle.qk_node.specs.Borrowed.{node_of};
 ghost use Rattle.qk_captures.specs.Capturing.{names_around};
-ghost use Rattle.qk_captures.specs.Scoping.{in_scope, with_one, with_all, inside_arrow, block_names, first_names, names_before, outside_of, back_to};
+ghost use Rattle.qk_captures.specs.Scoping.{in_scope, with_one, with_all, inside_arrow, block_names, entered, first_names, names_before, outside_of, back_to};
 
-use qk_ast::{Body, Expr, Form, NameSet, Pattern, Stmt};
+use qk_ast::{Arrow, Body, Expr, Form, NameSet, Pattern, Stmt};
 use qk_locals::Mark;
+use qk_node::Node;
 use qk_shared::{Builder, List, Text};
 use std::alloc::{AllocError, Global};
 
@@ -170,6 +172,41 @@ impl<'a> Scope<'a> {
             self.enter_declared(statement)?;
         }
         Ok(())
+    }
+}
+
+impl<'a> Scope<'a> {
+    /// The names that an arrow's body declares in the arrow's own scope.
+    fn enter_body(&mut self, body: &'a Body) -> Result<(), AllocError>
+        ensures { OnOk result (self.new ≡ with_all (body_names body.now) self.old) }
+    {
+        match body {
+            Body::Value(_) => Ok(()),
+            Body::Block(statements) => self.enter_block(statements.as_slice()),
+        }
+    }
+
+    /// Into an arrow and its body.
+    fn enter_function(&mut self, arrow: &'a Arrow, mark: Mark) -> Result<(), AllocError>
+        ensures { OnOk result (self.new ≡ with_all (body_names arrow.now.body) (inside_arrow (mark_of mark) arrow.now.params self.old)) }
+    {
+        self.enter_arrow(mark, arrow.params.as_slice())?;
+        self.enter_body(&arrow.body)
+    }
+
+    /// Into a node of the tree.
+    pub(crate) fn enter_inside(&mut self, node: Node<'a>) -> Result<(), AllocError>
+        ensures { OnOk result (self.new ≡ entered (node_of node.entry) self.old) }
+    {
+        match node {
+            Node::Value(Expr::Arrow(arrow), mark) => self.enter_function(arrow.get(), mark),
+            Node::Block(inside) => self.enter_block(inside),
+            Node::ForBlock(name, inside) => {
+                self.enter(name.as_str())?;
+                self.enter_block(inside)
+            }
+            _ => Ok(()),
+        }
     }
 }
 

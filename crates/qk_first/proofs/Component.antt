@@ -8,13 +8,14 @@ use Rattle.qk_meaning.specs.Value.{Text, Site, Element, Value, Fields, Undefined
 use Rattle.qk_meaning.specs.World.{Object, Props, Signal, Loc, Step, Instance, Kept}
 use Rattle.qk_ast.specs.Texts.{same_text}
 use Rattle.qk_meaning.specs.Same.{weight, weight_of_named, depth, depth_of_named}
-use Rattle.qk_meaning.specs.Parts.{packed, value_at, found, replaced}
+use Rattle.qk_meaning.specs.Parts.{packed, value_at, found, has_field, replaced}
 use Rattle.qk_meaning.specs.Markup as Markup
 use Rattle.qk_meaning.specs.Markup.{markup_fault}
 use Rattle.qk_meaning.specs.Program.{Program, Framework, Code}
 use Rattle.qk_meaning.specs.Doing.{Gives}
-use Rattle.qk_meaning.specs.Running.{Running, Pure, At_site, Hooking, Mounting, Again, Happening, Did_read, Entered}
-use Rattle.qk_meaning.specs.Setting.{Entering, Setting, captures}
+use Rattle.qk_meaning.specs.Happening.{At_site, Happening, Did_read, Entered, Hooked, Signal_hook, Gives_value}
+use Rattle.qk_meaning.specs.Running.{Running, Pure, Hooking, Mounting, Again}
+use Rattle.qk_meaning.specs.Setting.{called_anew, Entering, Setting, captures}
 use Rattle.qk_meaning.specs.Making.{made_function, made, made_markup}
 use Rattle.qk_meaning.specs.Evaluation.{entered, field_values, values, markup}
 use Rattle.qk_first.proofs.Texts.{text_own}
@@ -44,15 +45,22 @@ abbrev pub reads_told : Bool → ℕ → List Happening
 reads_told true at = Did_read (record { loc = value_in 1; at = at }) ∷ []
 reads_told false at = []
 
+-- how the hook of the signal is answered, with the objects that are made for it
+abbrev pub hook_told : ℤ → List Object → Happening
+hook_told k made = Hooked Signal_hook (Int k ∷ []) (record { answer = Gives_value (Ref 1); made = made })
+
 module _ (p : Program) (enter : Entering) (n : Text) where
   own : same_text n n ≡ true
   own = text_own n
 
   abbrev pub here : Setting
-  here = record { program = p; enter = enter; mode = Pure; running = []; file = root; tracks = false }
+  here = record { program = p; enter = enter; computed = called_anew enter []; mode = Pure; running = []; file = root; tracks = false }
 
   abbrev pub counting : ℤ → List Loc → List Text → ℕ → List Happening → Hooking → Running
-  counting v log lines turns trace hooking = record { heap = Props end ∷ Signal (Int v) ∷ []; log = log; lines = lines; turns = turns; trace = trace; locals = field n (Ref 1) end; hooking = hooking }
+  counting v log lines turns trace hooking = record { heap = Props end ∷ Signal (Int v) ∷ []; log = log; lines = lines; turns = turns; trace = trace; locals = field n (Ref 1) end; hooking = hooking; kept = [] }
+
+  has_own : (v : Value) → has_field n (field n v end) ≡ true
+  has_own v = rw (own, has_field)
 
   value_own : (v : Value) → value_at n (field n v end) ≡ v
   value_own v = rw (own, value_at, found)
@@ -62,7 +70,7 @@ module _ (p : Program) (enter : Entering) (n : Text) where
 
   shows_children : (shows : Bool) (v : ℤ) (log : List Loc) (lines : List Text) (turns : ℕ) (trace : List Happening) (hooking : Hooking)
       → values (row (children shows n)) here (counting v log lines turns trace hooking) ≡ Gives (child_values shows v) (counting v log lines turns (trace ++ reads_told shows (length log)) hooking)
-  shows_children true v log lines turns trace hooking = rw (own, value_own (Ref 1))
+  shows_children true v log lines turns trace hooking = rw (has_own (Ref 1), value_own (Ref 1))
   shows_children false v log lines turns trace hooking = rw append-nil
 
   module _ (makes : (s : Site) (scope : Fields) → p.makes s scope ≡ Closure s scope false) (sited : p.site root 1 ≡ listener_site) (up : Bool) (coded : p.code listener_site ≡ listener_code n up) where
@@ -114,26 +122,29 @@ module _ (p : Program) (enter : Entering) (n : Text) where
         rw (fields v log lines turns trace hooking, shows_children shows v log lines turns trace hooking, makes_element v (counting v log lines turns (trace ++ reads_told shows (length log)) hooking))
 
     module _ (k : ℤ) (hook_root : p.root root (codes "useSignal") ≡ Framework (codes "useSignal")) (not_hook : same_text n (codes "useSignal") ≡ false) where
+      hook_unnamed : (v : Value) → has_field (codes "useSignal") (field n v end) ≡ false
+      hook_unnamed v = rw (not_hook, has_field)
+
       pub mounts : (component : Site) (arguments : List Value) (turns : ℕ) (trace : List Happening) (path : List Step) (before : List Instance)
           → entered (At_site component) (component_code n k (element shows n tag attributes)) here end arguments
-          (record { heap = Props end ∷ []; log = []; lines = []; turns = suc turns; trace = trace; locals = end; hooking = Mounting path before [] })
+          (record { heap = Props end ∷ []; log = []; lines = []; turns = suc turns; trace = trace; locals = end; hooking = Mounting path before []; kept = [] })
           ≡ Gives (view tag shows (attribute_fields n attributes) k)
-          (record { heap = Props end ∷ Signal (Int k) ∷ []; log = []; lines = []; turns = turns; trace = (trace ++ Entered (At_site component) ∷ []) ++ reads_told shows 0; locals = end; hooking = Mounting path before (Kept (Ref 1) ∷ []) })
+          (record { heap = Props end ∷ Signal (Int k) ∷ []; log = []; lines = []; turns = turns; trace = ((trace ++ Entered (At_site component) ∷ []) ++ hook_told k (Signal (Int k) ∷ []) ∷ []) ++ reads_told shows 0; locals = end; hooking = Mounting path before (Kept (Ref 1) ∷ []); kept = [] })
       mounts component arguments turns trace path before =
-          rw (not_hook, hook_root, replaced_own Undefined (Ref 1), shows_markup k [] [] turns (trace ++ Entered (At_site component) ∷ []) (Mounting path before (Kept (Ref 1) ∷ [])))
+          rw (hook_unnamed Undefined, hook_root, replaced_own Undefined (Ref 1), shows_markup k [] [] turns ((trace ++ Entered (At_site component) ∷ []) ++ hook_told k (Signal (Int k) ∷ []) ∷ []) (Mounting path before (Kept (Ref 1) ∷ [])))
 
       pub again : (component : Site) (arguments : List Value) (v : ℤ) (log : List Loc) (lines : List Text) (turns : ℕ) (trace : List Happening)
           → entered (At_site component) (component_code n k (element shows n tag attributes)) here end arguments
-          (record { heap = Props end ∷ Signal (Int v) ∷ []; log = log; lines = lines; turns = suc turns; trace = trace; locals = end; hooking = Again (Kept (Ref 1) ∷ []) })
+          (record { heap = Props end ∷ Signal (Int v) ∷ []; log = log; lines = lines; turns = suc turns; trace = trace; locals = end; hooking = Again (Kept (Ref 1) ∷ []); kept = [] })
           ≡ Gives (view tag shows (attribute_fields n attributes) v)
-          (record { heap = Props end ∷ Signal (Int v) ∷ []; log = log; lines = lines; turns = turns; trace = (trace ++ Entered (At_site component) ∷ []) ++ reads_told shows (length log); locals = end; hooking = Again [] })
+          (record { heap = Props end ∷ Signal (Int v) ∷ []; log = log; lines = lines; turns = turns; trace = ((trace ++ Entered (At_site component) ∷ []) ++ hook_told k [] ∷ []) ++ reads_told shows (length log); locals = end; hooking = Again []; kept = [] })
       again component arguments v log lines turns trace =
-          rw (not_hook, hook_root, replaced_own Undefined (Ref 1), shows_markup v log lines turns (trace ++ Entered (At_site component) ∷ []) (Again []))
+          rw (hook_unnamed Undefined, hook_root, replaced_own Undefined (Ref 1), shows_markup v log lines turns ((trace ++ Entered (At_site component) ∷ []) ++ hook_told k [] ∷ []) (Again []))
 
   -- ---- without a signal
 
   abbrev pub simply : List Object → List Loc → List Text → ℕ → List Happening → Hooking → Running
-  simply heap log lines turns trace hooking = record { heap = heap; log = log; lines = lines; turns = turns; trace = trace; locals = end; hooking = hooking }
+  simply heap log lines turns trace hooking = record { heap = heap; log = log; lines = lines; turns = turns; trace = trace; locals = end; hooking = hooking; kept = [] }
 
   module _ (tag : Text) (attributes : List First_attribute) (makes : Makes tag false (attribute_fields n attributes))
       (fields : (s : Running) → field_values (field_row (attribute_pairs n attributes)) here s ≡ Gives (attribute_fields n attributes) s) where

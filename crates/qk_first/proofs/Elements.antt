@@ -15,10 +15,10 @@ use Rattle.qk_ast.specs.Framework.{void_tags}
 use Rattle.qk_meaning.specs.Html.{written, text_char, html, nodes_count, closed}
 use Rattle.qk_meaning.specs.Tree as Found
 use Rattle.qk_meaning.specs.Tree.{heard_by, listener_among, first_with, shows_id, names_event}
-use Rattle.qk_meaning.specs.Hooks.{or_else}
+use Rattle.qk_meaning.specs.Parts.{or_else}
 use Rattle.qk_meaning.specs.Item.{Event, html_within_limits}
-use Rattle.qk_meaning.specs.Doing.{Gives, chosen, give}
-use Rattle.qk_meaning.specs.Running.{Running, fault}
+use Rattle.qk_meaning.specs.Doing.{Gives, chosen, give, fault}
+use Rattle.qk_meaning.specs.Running.{Running}
 use Rattle.qk_meaning.specs.Fault.{TreeTooLarge, HtmlTooLong}
 use Rattle.qk_first.specs.Counter.{Counter, has_id, clicks_it, attributes_html, shown_number, first_html}
 use Rattle.qk_first.proofs.Words.{listener_site}

@@ -14,8 +14,9 @@ use Rattle.qk_meaning.specs.World.{Object, Props, Signal, Loc, Hook, Kept}
 use Rattle.qk_ast.specs.Names.{is_listed}
 use Rattle.qk_meaning.specs.Program.{Program, Code, captures_in}
 use Rattle.qk_meaning.specs.Doing.{Gives}
-use Rattle.qk_meaning.specs.Running.{Running, Mode, Pure, Effect, At_site, Entered, Happening, Hooking, Mounting, Again}
-use Rattle.qk_meaning.specs.Setting.{setting_of}
+use Rattle.qk_meaning.specs.Happening.{At_site, Entered, Happening}
+use Rattle.qk_meaning.specs.Running.{Running, Mode, Pure, Effect, Hooking, Mounting, Again}
+use Rattle.qk_meaning.specs.Setting.{setting_of, called_anew}
 use Rattle.qk_meaning.specs.Evaluation.{entered, entering, field_values}
 use Rattle.qk_meaning.specs.Readings.{program_of}
 use Rattle.qk_meaning.specs.Item.{Event}
@@ -29,7 +30,7 @@ use Rattle.qk_first.proofs.Listings as listings
 use Rattle.qk_first.proofs.Listener as listener
 use Rattle.qk_first.proofs.Listener.{value_in, listener_code}
 use Rattle.qk_first.proofs.Component as component
-use Rattle.qk_first.proofs.Component.{Makes, attribute_fields, reads_told, component_code, bare_code}
+use Rattle.qk_first.proofs.Component.{Makes, attribute_fields, reads_told, hook_told, component_code, bare_code}
 use Rattle.qk_first.proofs.Integers.{differs}
 use Rattle.qk_first.proofs.Roots.{up_of, modules, app_is, hook_root, component_coded, listener_sited, listener_coded}
 use Rattle.qk_first.proofs.Elements.{IsTag, tag_holds}
@@ -38,12 +39,12 @@ use Rattle.qk_first.proofs.Trees.{module_is, signal_of}
 
 -- a function is entered by its code
 enters : (p : Program) (l : ℕ) (mode : Mode) (site : Site) (scope : Fields) (arguments : List Value) (s : Running) (code : Code) → p.code site ≡ code
-    → entering p (suc l) mode [] (Closure site scope false) arguments s ≡ entered (At_site site) code (setting_of p (entering p l) mode [] code) scope arguments s
-enters p l mode site scope arguments s code e = ap (λ (k : Code). entered (At_site site) k (setting_of p (entering p l) mode [] k) scope arguments s) e
+    → entering p called_anew (suc l) mode [] (Closure site scope false) arguments s ≡ entered (At_site site) code (setting_of p called_anew (entering p called_anew l) mode [] code) scope arguments s
+enters p l mode site scope arguments s code e = ap (λ (k : Code). entered (At_site site) k (setting_of p called_anew (entering p called_anew l) mode [] k) scope arguments s) e
 
 -- attributes without a listener are what they are written as
 bare_fields : (p : Program) (l : ℕ) (n : Text) {attributes : List First_attribute} → Listing attributes → has_listener attributes ≡ false → (s : Running)
-    → field_values (field_row (attribute_pairs n attributes)) (component.here p (entering p l) n) s ≡ Gives (attribute_fields n attributes) s
+    → field_values (field_row (attribute_pairs n attributes)) (component.here p (entering p called_anew l) n) s ≡ Gives (attribute_fields n attributes) s
 bare_fields p l n nothing h s = refl
 bare_fields p l n (id_only w) h s = refl
 bare_fields p l n click_only h s = absurd (false≢true (sym h))
@@ -52,7 +53,7 @@ bare_fields p l n (click_id w) h s = absurd (false≢true (sym h))
 
 -- the element is made within the limits, where its listener is light and flat
 makes : (p : Program) (l : ℕ) (n tag : Text) (shows : Bool) {attributes : List First_attribute} → Listing attributes → listings.Light (captures_in p) n tag attributes
-    → Makes p (entering p l) n tag shows (attribute_fields n attributes)
+    → Makes p (entering p called_anew l) n tag shows (attribute_fields n attributes)
 makes p l n tag shows list light = record {
   no_fault = listings.no_fault (captures_in p) n tag list shows;
   makes_view = listings.makes_view (captures_in p) n tag list shows;
@@ -71,20 +72,20 @@ module _ (names : List Text) (n tag : Text) (k : ℕ) (shows : Bool) {attributes
   counter = record { tag = tag; attributes = attributes; initial = pos k; shows = shows }
 
   signal_fields : (v : ℤ) (log : List Loc) (lines : List Text) (turns : ℕ) (trace : List Happening) (hooking : Hooking)
-      → field_values (field_row (attribute_pairs n attributes)) (component.here p (entering p l) n) (component.counting p (entering p l) n v log lines turns trace hooking)
-      ≡ Gives (attribute_fields n attributes) (component.counting p (entering p l) n v log lines turns trace hooking)
+      → field_values (field_row (attribute_pairs n attributes)) (component.here p (entering p called_anew l) n) (component.counting p (entering p called_anew l) n v log lines turns trace hooking)
+      ≡ Gives (attribute_fields n attributes) (component.counting p (entering p called_anew l) n v log lines turns trace hooking)
   signal_fields v log lines turns trace hooking = go (has_listener attributes) refl
     where
       go : (b : Bool) → has_listener attributes ≡ b
-          → field_values (field_row (attribute_pairs n attributes)) (component.here p (entering p l) n) (component.counting p (entering p l) n v log lines turns trace hooking)
-          ≡ Gives (attribute_fields n attributes) (component.counting p (entering p l) n v log lines turns trace hooking)
-      go true e = component.gives_fields p (entering p l) n (λ s scope. refl) (listener_sited names n tag (pos k) shows list e) (up_of attributes) (listener_coded names n tag (pos k) shows list e) attributes v log lines turns trace hooking
-      go false e = bare_fields p l n list e (component.counting p (entering p l) n v log lines turns trace hooking)
+          → field_values (field_row (attribute_pairs n attributes)) (component.here p (entering p called_anew l) n) (component.counting p (entering p called_anew l) n v log lines turns trace hooking)
+          ≡ Gives (attribute_fields n attributes) (component.counting p (entering p called_anew l) n v log lines turns trace hooking)
+      go true e = component.gives_fields p (entering p called_anew l) n (λ s scope. refl) (listener_sited names n tag (pos k) shows list e) (up_of attributes) (listener_coded names n tag (pos k) shows list e) attributes v log lines turns trace hooking
+      go false e = bare_fields p l n list e (component.counting p (entering p called_anew l) n v log lines turns trace hooking)
 
   signal_light : listings.Light (captures_in p) n tag attributes
   signal_light = record {
-    weighs = λ e. component.listener_weight p (entering p l) n (λ s scope. refl) (listener_sited names n tag (pos k) shows list e) (up_of attributes) (listener_coded names n tag (pos k) shows list e);
-    deep = λ e. component.listener_depth p (entering p l) n (λ s scope. refl) (listener_sited names n tag (pos k) shows list e) (up_of attributes) (listener_coded names n tag (pos k) shows list e);
+    weighs = λ e. component.listener_weight p (entering p called_anew l) n (λ s scope. refl) (listener_sited names n tag (pos k) shows list e) (up_of attributes) (listener_coded names n tag (pos k) shows list e);
+    deep = λ e. component.listener_depth p (entering p called_anew l) n (λ s scope. refl) (listener_sited names n tag (pos k) shows list e) (up_of attributes) (listener_coded names n tag (pos k) shows list e);
   }
 
   abbrev rest : ℤ → List Object
@@ -93,25 +94,31 @@ module _ (names : List Text) (n tag : Text) (k : ℕ) (shows : Bool) {attributes
   abbrev hooks : List Hook
   hooks = Kept (Ref 1) ∷ []
 
-  signal_does : runs.Does p (suc l) counter n list tagged (app_is names n tag (Some (pos k)) shows attributes other) rest hooks (λ log. refl) (reads_told shows)
+  abbrev first_told : List Happening
+  first_told = hook_told (pos k) (Signal (Int (pos k)) ∷ []) ∷ reads_told shows 0
+
+  abbrev told : ℕ → List Happening
+  told at = hook_told (pos k) [] ∷ reads_told shows at
+
+  signal_does : runs.Does p (suc l) counter n list tagged (app_is names n tag (Some (pos k)) shows attributes other) rest hooks (λ log. refl) first_told told
   signal_does = record {
     again = λ v log lines turns before.
-        enters p l Pure component_site end (Ref 0 ∷ []) (record { heap = Props end ∷ rest v; log = log; lines = lines; turns = suc turns; trace = before; locals = end; hooking = Again hooks }) (component_code n (pos k) (element shows n tag attributes)) (component_coded names n tag (Some (pos k)) shows attributes)
-        ∙ component.again p (entering p l) n tag shows attributes (makes p l n tag shows list signal_light) signal_fields (pos k) (hook_root names n tag (Some (pos k)) shows attributes hooked) (not_hook n w) component_site (Ref 0 ∷ []) v log lines turns before
-        ∙ ap (λ (t : List Happening). Gives (component.view p (entering p l) n tag shows (attribute_fields n attributes) v) (record { heap = Props end ∷ rest v; log = log; lines = lines; turns = turns; trace = t; locals = end; hooking = Again [] }))
-        (append_assoc before (Entered (At_site component_site) ∷ []) (reads_told shows (length log)));
+        enters p l Pure component_site end (Ref 0 ∷ []) (record { heap = Props end ∷ rest v; log = log; lines = lines; turns = suc turns; trace = before; locals = end; hooking = Again hooks; kept = [] }) (component_code n (pos k) (element shows n tag attributes)) (component_coded names n tag (Some (pos k)) shows attributes)
+        ∙ component.again p (entering p called_anew l) n tag shows attributes (makes p l n tag shows list signal_light) signal_fields (pos k) (hook_root names n tag (Some (pos k)) shows attributes hooked) (not_hook n w) component_site (Ref 0 ∷ []) v log lines turns before
+        ∙ ap (λ (t : List Happening). Gives (component.view p (entering p called_anew l) n tag shows (attribute_fields n attributes) v) (record { heap = Props end ∷ rest v; log = log; lines = lines; turns = turns; trace = t; locals = end; hooking = Again []; kept = [] }))
+        (append_assoc (before ++ Entered (At_site component_site) ∷ []) (hook_told (pos k) [] ∷ []) (reads_told shows (length log)) ∙ append_assoc before (Entered (At_site component_site) ∷ []) (told (length log)));
     counts = λ e v arguments log turns stays.
-        enters p l Effect listener_site (field n (Ref 1) end) arguments (listener.counting p (entering p l) n v log [] (suc turns) []) (listener_code n (up_of attributes)) (listener_coded names n tag (pos k) shows list e)
-        ∙ listener.counts p (entering p l) n (up_of attributes) listener_site arguments v log [] turns stays (differs (up_of attributes) v);
+        enters p l Effect listener_site (field n (Ref 1) end) arguments (listener.counting p (entering p called_anew l) n v log [] (suc turns) []) (listener_code n (up_of attributes)) (listener_coded names n tag (pos k) shows list e)
+        ∙ listener.counts p (entering p called_anew l) n (up_of attributes) listener_site arguments v log [] turns stays (differs (up_of attributes) v);
   }
 
   with_signal : (events : List Event) → k + length events ≤ 2000000
-      → runs.RunsWhole p (suc l) counter n list tagged (app_is names n tag (Some (pos k)) shows attributes other) rest hooks (λ log. refl) (reads_told shows) signal_does events
+      → runs.RunsWhole p (suc l) counter n list tagged (app_is names n tag (Some (pos k)) shows attributes other) rest hooks (λ log. refl) first_told told signal_does events
   with_signal events room =
-      runs.runs_whole p (suc l) counter n list tagged (app_is names n tag (Some (pos k)) shows attributes other) rest hooks (λ log. refl) (reads_told shows) signal_does
+      runs.runs_whole p (suc l) counter n list tagged (app_is names n tag (Some (pos k)) shows attributes other) rest hooks (λ log. refl) first_told told signal_does
       (λ turns.
-      enters p l Pure component_site end (Ref 0 ∷ []) (record { heap = Props end ∷ []; log = []; lines = []; turns = suc turns; trace = []; locals = end; hooking = Mounting [] [] [] }) (component_code n (pos k) (element shows n tag attributes)) (component_coded names n tag (Some (pos k)) shows attributes)
-      ∙ component.mounts p (entering p l) n tag shows attributes (makes p l n tag shows list signal_light) signal_fields (pos k) (hook_root names n tag (Some (pos k)) shows attributes hooked) (not_hook n w) component_site (Ref 0 ∷ []) turns [] [] [])
+      enters p l Pure component_site end (Ref 0 ∷ []) (record { heap = Props end ∷ []; log = []; lines = []; turns = suc turns; trace = []; locals = end; hooking = Mounting [] [] []; kept = [] }) (component_code n (pos k) (element shows n tag attributes)) (component_coded names n tag (Some (pos k)) shows attributes)
+      ∙ component.mounts p (entering p called_anew l) n tag shows attributes (makes p l n tag shows list signal_light) signal_fields (pos k) (hook_root names n tag (Some (pos k)) shows attributes hooked) (not_hook n w) component_site (Ref 0 ∷ []) turns [] [] [])
       events room
 
 -- ---- without one
@@ -128,22 +135,22 @@ module _ (names : List Text) (n tag : Text) {attributes : List First_attribute} 
   bare_light = record { weighs = λ e. absurd (false≢true (sym silent ∙ e)); deep = λ e. absurd (false≢true (sym silent ∙ e)) }
 
   enters_bare : (heap : List Object) (log : List Loc) (lines : List Text) (turns : ℕ) (before : List Happening) (hooking : Hooking)
-      → entering bare_p (suc l) Pure [] (Closure component_site end false) (Ref 0 ∷ []) (record { heap = heap; log = log; lines = lines; turns = suc turns; trace = before; locals = end; hooking = hooking })
-      ≡ Gives (component.view bare_p (entering bare_p l) n tag false (attribute_fields n attributes) (pos 0)) (record { heap = heap; log = log; lines = lines; turns = turns; trace = before ++ Entered (At_site component_site) ∷ []; locals = end; hooking = hooking })
+      → entering bare_p called_anew (suc l) Pure [] (Closure component_site end false) (Ref 0 ∷ []) (record { heap = heap; log = log; lines = lines; turns = suc turns; trace = before; locals = end; hooking = hooking; kept = [] })
+      ≡ Gives (component.view bare_p (entering bare_p called_anew l) n tag false (attribute_fields n attributes) (pos 0)) (record { heap = heap; log = log; lines = lines; turns = turns; trace = before ++ Entered (At_site component_site) ∷ []; locals = end; hooking = hooking; kept = [] })
   enters_bare heap log lines turns before hooking =
-      enters bare_p l Pure component_site end (Ref 0 ∷ []) (record { heap = heap; log = log; lines = lines; turns = suc turns; trace = before; locals = end; hooking = hooking }) (bare_code (element false n tag attributes)) (component_coded names n tag None false attributes)
-      ∙ component.stays bare_p (entering bare_p l) n tag attributes (makes bare_p l n tag false list bare_light) (bare_fields bare_p l n list silent) component_site (Ref 0 ∷ []) heap log lines turns before hooking
+      enters bare_p l Pure component_site end (Ref 0 ∷ []) (record { heap = heap; log = log; lines = lines; turns = suc turns; trace = before; locals = end; hooking = hooking; kept = [] }) (bare_code (element false n tag attributes)) (component_coded names n tag None false attributes)
+      ∙ component.stays bare_p (entering bare_p called_anew l) n tag attributes (makes bare_p l n tag false list bare_light) (bare_fields bare_p l n list silent) component_site (Ref 0 ∷ []) heap log lines turns before hooking
 
-  bare_does : runs.Does bare_p (suc l) bare_counter n list tagged (app_is names n tag None false attributes other) (λ v. []) [] (λ log. refl) (λ at. [])
+  bare_does : runs.Does bare_p (suc l) bare_counter n list tagged (app_is names n tag None false attributes other) (λ v. []) [] (λ log. refl) [] (λ at. [])
   bare_does = record {
     again = λ v log lines turns before. enters_bare (Props end ∷ []) log lines turns before (Again []);
     counts = λ e v arguments log turns stays. absurd (false≢true (sym silent ∙ e));
   }
 
   without_signal : (events : List Event) → length events ≤ 2000000
-      → runs.RunsWhole bare_p (suc l) bare_counter n list tagged (app_is names n tag None false attributes other) (λ v. []) [] (λ log. refl) (λ at. []) bare_does events
+      → runs.RunsWhole bare_p (suc l) bare_counter n list tagged (app_is names n tag None false attributes other) (λ v. []) [] (λ log. refl) [] (λ at. []) bare_does events
   without_signal events room =
-      runs.runs_whole bare_p (suc l) bare_counter n list tagged (app_is names n tag None false attributes other) (λ v. []) [] (λ log. refl) (λ at. []) bare_does
+      runs.runs_whole bare_p (suc l) bare_counter n list tagged (app_is names n tag None false attributes other) (λ v. []) [] (λ log. refl) [] (λ at. []) bare_does
       (λ turns. enters_bare (Props end ∷ []) [] [] turns [] (Mounting [] [] [])) events (omega arith)
 
 -- ---- a text of the first form

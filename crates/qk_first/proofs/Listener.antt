@@ -4,12 +4,13 @@ use Rattle.qk_meaning.specs.Value.{Text, Site, Value, Int, Ref, end, field}
 use Rattle.std.proofs.Common.{ap}
 use Rattle.qk_meaning.specs.World.{Key, Props, Signal, Loc, Prop}
 use Rattle.qk_ast.specs.Texts.{same_text}
-use Rattle.qk_meaning.specs.Parts.{value_at, found}
+use Rattle.qk_meaning.specs.Parts.{value_at, found, has_field}
 use Rattle.qk_meaning.specs.Same.{same_integer}
 use Rattle.qk_meaning.specs.Program.{Program, Code}
 use Rattle.qk_meaning.specs.Doing.{Gives}
-use Rattle.qk_meaning.specs.Running.{Running, Effect, At_site, Outside, Happening, Did_read, Did_act, Entered}
-use Rattle.qk_meaning.specs.Setting.{Entering, Setting, captures}
+use Rattle.qk_meaning.specs.Happening.{At_site, Happening, Did_read, Did_act, Did_log, Entered}
+use Rattle.qk_meaning.specs.Running.{Running, Effect, Outside}
+use Rattle.qk_meaning.specs.Setting.{called_anew, Entering, Setting, captures}
 use Rattle.qk_meaning.specs.Changes.{changed_in}
 use Rattle.qk_meaning.specs.Operators.{safe, Is}
 use Rattle.qk_meaning.specs.Evaluation.{entered}
@@ -29,10 +30,13 @@ module _ (p : Program) (enter : Entering) (n : Text) where
   own = text_own n
 
   abbrev pub here : Setting
-  here = record { program = p; enter = enter; mode = Effect; running = []; file = root; tracks = false }
+  here = record { program = p; enter = enter; computed = called_anew enter []; mode = Effect; running = []; file = root; tracks = false }
 
   abbrev pub counting : ℤ → List Loc → List Text → ℕ → List Happening → Running
-  counting v log lines turns trace = record { heap = Props end ∷ Signal (Int v) ∷ []; log = log; lines = lines; turns = turns; trace = trace; locals = end; hooking = Outside }
+  counting v log lines turns trace = record { heap = Props end ∷ Signal (Int v) ∷ []; log = log; lines = lines; turns = turns; trace = trace; locals = end; hooking = Outside; kept = [] }
+
+  has_own : (v : Value) → has_field n (field n v end) ≡ true
+  has_own v = rw (own, has_field)
 
   value_own : (v : Value) → value_at n (field n v end) ≡ v
   value_own v = rw (own, value_at, found)
@@ -47,18 +51,18 @@ module _ (p : Program) (enter : Entering) (n : Text) where
   up_counts : (site : Site) (arguments : List Value) (v : ℤ) (log : List Loc) (lines : List Text) (turns : ℕ)
       → safe (v +ℤ pos 1) ≡ Is (Int (v +ℤ pos 1)) → same_integer v (v +ℤ pos 1) ≡ false
       → entered (At_site site) (listener_code n true) here (field n (Ref 1) end) arguments (counting v log lines (suc turns) [])
-      ≡ Gives (Int v) (counting (v +ℤ pos 1) (log ++ value_in 1 ∷ []) lines turns (Entered (At_site site) ∷ Did_read (record { loc = value_in 1; at = length log }) ∷ Did_act 1 ∷ []))
-  up_counts site arguments v log lines turns stays differs = rw (own, value_own (Ref 1), stays, logs v (v +ℤ pos 1) differs)
+      ≡ Gives (Int v) (counting (v +ℤ pos 1) (log ++ value_in 1 ∷ []) lines turns (Entered (At_site site) ∷ Did_read (record { loc = value_in 1; at = length log }) ∷ Did_act 1 ∷ Did_log (value_in 1) ∷ []))
+  up_counts site arguments v log lines turns stays differs = rw (has_own (Ref 1), value_own (Ref 1), stays, logs v (v +ℤ pos 1) differs)
 
   down_counts : (site : Site) (arguments : List Value) (v : ℤ) (log : List Loc) (lines : List Text) (turns : ℕ)
       → safe (v -ℤ pos 1) ≡ Is (Int (v -ℤ pos 1)) → same_integer v (v -ℤ pos 1) ≡ false
       → entered (At_site site) (listener_code n false) here (field n (Ref 1) end) arguments (counting v log lines (suc turns) [])
-      ≡ Gives (Int v) (counting (v -ℤ pos 1) (log ++ value_in 1 ∷ []) lines turns (Entered (At_site site) ∷ Did_read (record { loc = value_in 1; at = length log }) ∷ Did_act 1 ∷ []))
-  down_counts site arguments v log lines turns stays differs = rw (own, value_own (Ref 1), stays, logs v (v -ℤ pos 1) differs)
+      ≡ Gives (Int v) (counting (v -ℤ pos 1) (log ++ value_in 1 ∷ []) lines turns (Entered (At_site site) ∷ Did_read (record { loc = value_in 1; at = length log }) ∷ Did_act 1 ∷ Did_log (value_in 1) ∷ []))
+  down_counts site arguments v log lines turns stays differs = rw (has_own (Ref 1), value_own (Ref 1), stays, logs v (v -ℤ pos 1) differs)
 
   pub counts : (up : Bool) (site : Site) (arguments : List Value) (v : ℤ) (log : List Loc) (lines : List Text) (turns : ℕ)
       → safe (moved up v) ≡ Is (Int (moved up v)) → same_integer v (moved up v) ≡ false
       → entered (At_site site) (listener_code n up) here (field n (Ref 1) end) arguments (counting v log lines (suc turns) [])
-      ≡ Gives (Int v) (counting (moved up v) (log ++ value_in 1 ∷ []) lines turns (Entered (At_site site) ∷ Did_read (record { loc = value_in 1; at = length log }) ∷ Did_act 1 ∷ []))
+      ≡ Gives (Int v) (counting (moved up v) (log ++ value_in 1 ∷ []) lines turns (Entered (At_site site) ∷ Did_read (record { loc = value_in 1; at = length log }) ∷ Did_act 1 ∷ Did_log (value_in 1) ∷ []))
   counts true site arguments v log lines turns stays differs = up_counts site arguments v log lines turns stays differs
   counts false site arguments v log lines turns stays differs = down_counts site arguments v log lines turns stays differs

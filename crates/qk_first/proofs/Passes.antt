@@ -3,19 +3,21 @@ use Rattle.std.specs.Prelude.{◌≡◌, refl, ℕ, suc, ℤ, Bool, true, false,
 use Rattle.std.proofs.Common.{ap, ◌∙◌, append-nil}
 use Rattle.std.proofs.lemmas.Bool.{eq-eqb}
 use Rattle.std.proofs.Math.Seq.{drop-append_seam}
+use Rattle.qk_meaning.specs.Manner.{whole}
+use Rattle.qk_meaning.specs.Setting.{called_anew}
 use Rattle.qk_meaning.specs.Value.{Text, Site, Shown, Element, Component, Value, Fields, Ref, Elem, Closure, none, end}
 use Rattle.qk_meaning.specs.World.{Object, Props, Loc, Read, Hook, Instance, World}
 use Rattle.qk_meaning.specs.Parts.{packed}
 use Rattle.qk_meaning.specs.Texts.{integer_text}
 use Rattle.qk_meaning.specs.Program.{Program}
 use Rattle.qk_meaning.specs.Doing.{Outcome, Gives, Doing, after, give, ◌>>◌, becomes, chosen, put_back}
-use Rattle.qk_meaning.specs.Running.{Running, Effect, Pure, At_site, Hooking, Outside, Mounting, Again, Happening, Entered}
+use Rattle.qk_meaning.specs.Happening.{At_site, Happening, Entered}
+use Rattle.qk_meaning.specs.Running.{Running, Effect, Pure, Hooking, Outside, Mounting, Again}
 use Rattle.qk_meaning.specs.Evaluation.{entering}
 use Rattle.qk_meaning.specs.Trace.{own_reads}
-use Rattle.qk_meaning.specs.Readings.{app_of}
 use Rattle.qk_meaning.specs.Expansion.{Tagged, Inside, Nodes, no_nodes, node, joined, text_nodes, Visit, expand_app, expand_item, view_with, wrapped, nothing_given, children_of}
 use Rattle.qk_meaning.specs.Tree.{heard_by, tree, nodes_given, view_at}
-use Rattle.qk_meaning.specs.Session.{Session, session_in, nothing_yet, lines_in, runs}
+use Rattle.qk_meaning.specs.Session.{Session, session_in, nothing_yet, runs}
 use Rattle.qk_meaning.specs.Item.{Block, Event, html_within_limits, block, event, heard, records_of, first_render}
 use Rattle.qk_meaning.specs.Execution.{execution, take_or_mount}
 use Rattle.qk_meaning.specs.Settling.{Spot, due_hook, first_due, is_quiet, pass, round, settled, settled_within}
@@ -26,11 +28,11 @@ child_nodes true v = joined (text_nodes (integer_text v)) no_nodes
 child_nodes false v = no_nodes
 
 -- the view is expanded to one element
-expands_view : {S : Type 0} (visit : Visit S) (lines : S → List Text) (n : ℕ) (shows : Bool) (tag : Text) (attributes : Fields) (v : ℤ) (s : S)
-    → view_with (expand_item visit lines (suc (suc n))) [] (children_of none nothing_given) (Elem (Element tag) None [] attributes (packed (child_values shows v))) s
+expands_view : {S : Type 0} (visit : Visit S) (n : ℕ) (shows : Bool) (tag : Text) (attributes : Fields) (v : ℤ) (s : S)
+    → view_with (expand_item visit (suc (suc n))) [] (children_of none nothing_given) (Elem (Element tag) None [] attributes (packed (child_values shows v))) s
     ≡ Gives (node (Tagged tag attributes (child_nodes shows v)) no_nodes) s
-expands_view visit lines n true tag attributes v s = refl
-expands_view visit lines n false tag attributes v s = refl
+expands_view visit n true tag attributes v s = refl
+expands_view visit n false tag attributes v s = refl
 
 -- the page of one component: the element that it shows, the objects and the hooks that it has, and what happens in it besides its entering
 pub record Page : Type 0 where
@@ -42,11 +44,12 @@ pub record Page : Type 0 where
   -- the objects behind its props, at a number
   pub rest : ℤ → List Object
   pub hooks : List Hook
-  -- what happens where the log has this length
+  -- what happens at its mount, and later where the log has this length
+  pub first_told : List Happening
   pub told : ℕ → List Happening
 
-module _ (p : Program) (levels : ℕ) (page : Page) (app : app_of p ≡ Component page.component) (idle : (log : List Loc) → due_hook log 0 0 page.hooks ≡ None) where
-  open page use {component, tag, attributes, shows, rest, hooks, told}
+module _ (p : Program) (levels : ℕ) (page : Page) (app : p.app ≡ Component page.component) (idle : (log : List Loc) → due_hook log 0 0 page.hooks ≡ None) where
+  open page use {component, tag, attributes, shows, rest, hooks, first_told, told}
 
   abbrev pub view : ℤ → Value
   view v = Elem (Element tag) None [] attributes (packed (child_values shows v))
@@ -55,22 +58,22 @@ module _ (p : Program) (levels : ℕ) (page : Page) (app : app_of p ≡ Componen
   nodes_of v = node (Inside [] (node (Tagged tag attributes (child_nodes shows v)) no_nodes)) no_nodes
 
   abbrev pub run_in : ℤ → List Loc → List Text → ℕ → List Happening → Hooking → Running
-  run_in v log lines turns trace hooking = record { heap = Props end ∷ rest v; log = log; lines = lines; turns = turns; trace = trace; locals = end; hooking = hooking }
+  run_in v log lines turns trace hooking = record { heap = Props end ∷ rest v; log = log; lines = lines; turns = turns; trace = trace; locals = end; hooking = hooking; kept = [] }
 
   abbrev pub stood : Value → List Read → Instance
   stood w reads = record { path = []; component = Closure component end false; props = 0; hooks = hooks; view = w; reads = reads }
 
   -- a component whose view is this is expanded to its nodes
-  expands : {S : Type 0} (visit : Visit S) (lines : S → List Text) (v : ℤ) (s t : S)
+  expands : {S : Type 0} (visit : Visit S) (v : ℤ) (s t : S)
       → visit (record { path = []; shown = Component component; fields = end }) s ≡ Gives (view v) t
-      → expand_app visit lines (Component component) s ≡ Gives (nodes_of v) t
-  expands {S} visit lines v s t e =
-      ap (λ (o : Outcome S Value). after o (λ w. wrapped (λ nodes. Inside [] nodes) (view_with (expand_item visit lines 128) [] (children_of none nothing_given) w))) e
-      ∙ ap (λ (o : Outcome S Nodes). after o (λ nodes. give (node (Inside [] nodes) no_nodes))) (expands_view visit lines 126 shows tag attributes v t)
+      → expand_app visit (Component component) s ≡ Gives (nodes_of v) t
+  expands {S} visit v s t e =
+      ap (λ (o : Outcome S Value). after o (λ w. wrapped (λ nodes. Inside [] nodes) (view_with (expand_item visit 128) [] (children_of none nothing_given) w))) e
+      ∙ ap (λ (o : Outcome S Nodes). after o (λ nodes. give (node (Inside [] nodes) no_nodes))) (expands_view visit 126 shows tag attributes v t)
 
   -- the expansion over the settled instance
   shown_nodes : (log : List Loc) (lines : List Text) (v : ℤ) (reads : List Read) → tree (Component component) (record { heap = Props end ∷ rest v; log = log; lines = lines; instances = stood (view v) reads ∷ [] }) ≡ nodes_of v
-  shown_nodes log lines v reads = ap nodes_given (expands (view_at (stood (view v) reads ∷ [])) (λ s. []) v tt tt refl)
+  shown_nodes log lines v reads = ap nodes_given (expands (view_at (stood (view v) reads ∷ [])) v tt tt refl)
 
   -- ---- a pass over the instance that stands
 
@@ -78,28 +81,31 @@ module _ (p : Program) (levels : ℕ) (page : Page) (app : app_of p ≡ Componen
   abbrev pub happens : ℕ → List Happening
   happens at = Entered (At_site component) ∷ told at
 
+  abbrev pub mounting : List Happening
+  mounting = Entered (At_site component) ∷ first_told
+
   abbrev pub session : ℤ → List Loc → List Text → ℕ → List Happening → List Instance → List Instance → Bool → Session
   session v log lines turns trace instances executed mounted = record { running = run_in v log lines turns trace Outside; instances = instances; executed = executed; mounted = mounted }
 
   module _ (again : (v : ℤ) (log : List Loc) (lines : List Text) (turns : ℕ) (trace : List Happening)
-      → entering p levels Pure [] (Closure component end false) (Ref 0 ∷ []) (run_in v log lines (suc turns) trace (Again hooks)) ≡ Gives (view v) (run_in v log lines turns (trace ++ happens (length log)) (Again []))) where
+      → entering p called_anew levels Pure [] (Closure component end false) (Ref 0 ∷ []) (run_in v log lines (suc turns) trace (Again hooks)) ≡ Gives (view v) (run_in v log lines turns (trace ++ happens (length log)) (Again []))) where
     executes : (v : ℤ) (log : List Loc) (lines : List Text) (turns : ℕ) (trace : List Happening)
-        → execution p levels (Again hooks) (Component component) 0 (run_in v log lines (suc turns) trace Outside)
+        → execution p called_anew levels (Again hooks) (Component component) 0 (run_in v log lines (suc turns) trace Outside)
         ≡ Gives (record { view = view v; hooks = []; reads = own_reads (happens (length log)) }) (run_in v log lines turns (trace ++ happens (length log)) Outside)
     executes v log lines turns trace = rw (again v log lines turns trace, drop-append_seam trace (happens (length log)))
 
     visits : (w : Value) (reads : List Read) (v : ℤ) (log : List Loc) (lines : List Text) (turns : ℕ) (trace : List Happening)
-        → take_or_mount p levels (record { path = []; shown = Component component; fields = end }) (session v log lines (suc turns) trace (stood w reads ∷ []) [] false)
+        → take_or_mount p called_anew levels (record { path = []; shown = Component component; fields = end }) (session v log lines (suc turns) trace (stood w reads ∷ []) [] false)
         ≡ Gives (view v) (session v log lines turns (trace ++ happens (length log)) (stood w reads ∷ []) (stood (view v) (own_reads (happens (length log))) ∷ []) false)
-    visits w reads v log lines turns trace = rw (append-nil log, executes v log lines turns trace)
+    visits w reads v log lines turns trace = rw (append-nil log, append-nil trace, executes v log lines turns trace)
 
     passes : (w : Value) (reads : List Read) (v : ℤ) (log : List Loc) (lines : List Text) (turns : ℕ) (trace : List Happening) (executed : List Instance) (mounted : Bool)
-        → pass p levels (session v log lines (suc turns) trace (stood w reads ∷ []) executed mounted)
-        ≡ Gives tt (session v log lines turns (trace ++ happens (length log)) (stood (view v) (own_reads (happens (length log))) ∷ []) [] false)
+        → pass (whole p levels) (session v log lines (suc turns) trace (stood w reads ∷ []) executed mounted)
+        ≡ Gives (nodes_of v) (session v log lines turns (trace ++ happens (length log)) (stood (view v) (own_reads (happens (length log))) ∷ []) [] false)
     passes w reads v log lines turns trace executed mounted =
-        ap (λ (a : Shown). after (expand_app (take_or_mount p levels) lines_in a (session v log lines (suc turns) trace (stood w reads ∷ []) [] false)) (λ nodes. becomes (λ s. record s { instances = s.executed; executed = [] }))) app
-        ∙ ap (λ (o : Outcome Session Nodes). after o (λ nodes. becomes (λ s. record s { instances = s.executed; executed = [] })))
-        (expands (take_or_mount p levels) lines_in v (session v log lines (suc turns) trace (stood w reads ∷ []) [] false)
+        ap (λ (a : Shown). after (expand_app (take_or_mount p called_anew levels) a (session v log lines (suc turns) trace (stood w reads ∷ []) [] false)) (λ nodes. ◌>>◌ (becomes (λ s. record s { instances = s.executed; executed = [] })) (give nodes))) app
+        ∙ ap (λ (o : Outcome Session Nodes). after o (λ nodes. ◌>>◌ (becomes (λ s. record s { instances = s.executed; executed = [] })) (give nodes)))
+        (expands (take_or_mount p called_anew levels) v (session v log lines (suc turns) trace (stood w reads ∷ []) [] false)
         (session v log lines turns (trace ++ happens (length log)) (stood w reads ∷ []) (stood (view v) (own_reads (happens (length log))) ∷ []) false) (visits w reads v log lines turns trace))
 
     none_due : (w : Value) (reads : List Read) (v : ℤ) (log : List Loc) (lines : List Text) → first_due (record { heap = Props end ∷ rest v; log = log; lines = lines; instances = stood w reads ∷ [] }) ≡ None
@@ -112,14 +118,14 @@ module _ (p : Program) (levels : ℕ) (page : Page) (app : app_of p ≡ Componen
         ∙ ap (λ (o : Option Spot). not (is_some o)) (none_due w reads v log lines)
 
     settles : (rounds : ℕ) (w : Value) (reads : List Read) (v : ℤ) (log : List Loc) (lines : List Text) (turns : ℕ) (trace : List Happening) (executed : List Instance) (mounted : Bool)
-        → settled_within p levels (suc rounds) (session v log lines (suc turns) trace (stood w reads ∷ []) executed mounted)
+        → settled_within (whole p levels) (suc rounds) (session v log lines (suc turns) trace (stood w reads ∷ []) executed mounted)
         ≡ Gives tt (session v log lines turns (trace ++ happens (length log)) (stood (view v) (own_reads (happens (length log))) ∷ []) [] false)
     settles rounds w reads v log lines turns trace executed mounted =
         let before = session v log lines (suc turns) trace (stood w reads ∷ []) executed mounted in
         let behind = session v log lines turns (trace ++ happens (length log)) (stood (view v) (own_reads (happens (length log))) ∷ []) [] false in
-        ap (λ (o : Option Spot). round p levels (settled_within p levels rounds) o before) (none_due w reads v log lines)
-        ∙ ap (λ (o : Outcome Session (Unit {0})). after o (λ u s. chosen (is_quiet (length log) s) (give tt) (settled_within p levels rounds) s)) (passes w reads v log lines turns trace executed mounted)
-        ∙ ap (λ (b : Bool). chosen b (give tt) (settled_within p levels rounds) behind) (quiet (view v) (own_reads (happens (length log))) v log lines turns (trace ++ happens (length log)))
+        ap (λ (o : Option Spot). round (whole p levels) (settled_within (whole p levels) rounds) o before) (none_due w reads v log lines)
+        ∙ ap (λ (o : Outcome Session Nodes). after o (λ u s. chosen (is_quiet (length log) s) (give tt) (settled_within (whole p levels) rounds) s)) (passes w reads v log lines turns trace executed mounted)
+        ∙ ap (λ (b : Bool). chosen b (give tt) (settled_within (whole p levels) rounds) behind) (quiet (view v) (own_reads (happens (length log))) v log lines turns (trace ++ happens (length log)))
 
     -- ---- blocks
 
@@ -127,11 +133,11 @@ module _ (p : Program) (levels : ℕ) (page : Page) (app : app_of p ≡ Componen
       abbrev pub shows_block : Bool → ℤ → Block
       shows_block found_none v = record { none = found_none; lines = []; html = text v }
 
-      shown_in : (v : ℤ) (log : List Loc) (reads : List Read) → tree (app_of p) (record { heap = Props end ∷ rest v; log = log; lines = []; instances = stood (view v) reads ∷ [] }) ≡ nodes_of v
+      shown_in : (v : ℤ) (log : List Loc) (reads : List Read) → tree p.app (record { heap = Props end ∷ rest v; log = log; lines = []; instances = stood (view v) reads ∷ [] }) ≡ nodes_of v
       shown_in v log reads = ap (λ (a : Shown). tree a (record { heap = Props end ∷ rest v; log = log; lines = []; instances = stood (view v) reads ∷ [] })) app ∙ shown_nodes log [] v reads
 
       gives_block : (found_none : Bool) (v : ℤ) (log : List Loc) (turns : ℕ) (trace : List Happening) (reads : List Read) (executed : List Instance) (mounted : Bool)
-          → block p levels found_none (session v log [] turns trace (stood (view v) reads ∷ []) executed mounted)
+          → block (whole p levels) found_none (session v log [] turns trace (stood (view v) reads ∷ []) executed mounted)
           ≡ Gives (shows_block found_none v) (session v log [] turns trace (stood (view v) reads ∷ []) executed mounted)
       gives_block found_none v log turns trace reads executed mounted =
           let w = session v log [] turns trace (stood (view v) reads ∷ []) executed mounted in
@@ -146,45 +152,45 @@ module _ (p : Program) (levels : ℕ) (page : Page) (app : app_of p ≡ Componen
 
       pub unheard : (e : Event) (v : ℤ) (log : List Loc) (reads : List Read) (turns : ℕ)
           → heard_by e.kind e.id (nodes_of v) ≡ None
-          → event p levels e (session v log [] turns [] (stood (view v) reads ∷ []) [] false)
+          → event (whole p levels) e (session v log [] turns [] (stood (view v) reads ∷ []) [] false)
           ≡ Gives (shows_block true v) (session v log [] turns [] (stood (view v) reads ∷ []) [] false)
       unheard e v log reads turns unfound =
           let w = session v log [] turns [] (stood (view v) reads ∷ []) [] false in
-          ap (λ (n : Nodes). heard p levels e (heard_by e.kind e.id n) w) (shown_in v log reads)
-          ∙ ap (λ (o : Option Value). heard p levels e o w) unfound
+          ap (λ (n : Nodes). heard (whole p levels) e (heard_by e.kind e.id n) w) (shown_in v log reads)
+          ∙ ap (λ (o : Option Value). heard (whole p levels) e o w) unfound
           ∙ gives_block true v log turns [] reads [] false
 
       -- the listener is called, and the session settles
       pub heard_at : (e : Event) (f r : Value) (v u : ℤ) (log more : List Loc) (reads : List Read) (turns : ℕ) (trace : List Happening)
           → heard_by e.kind e.id (nodes_of v) ≡ Some f
-          → entering p levels Effect [] f (records_of e) (run_in v log [] (suc (suc turns)) [] Outside) ≡ Gives r (run_in u more [] (suc turns) trace Outside)
-          → event p levels e (session v log [] (suc (suc turns)) [] (stood (view v) reads ∷ []) [] false)
+          → entering p called_anew levels Effect [] f (records_of e) (run_in v log [] (suc (suc turns)) [] Outside) ≡ Gives r (run_in u more [] (suc turns) trace Outside)
+          → event (whole p levels) e (session v log [] (suc (suc turns)) [] (stood (view v) reads ∷ []) [] false)
           ≡ Gives (shows_block false u) (session u more [] turns (trace ++ happens (length more)) (stood (view u) (own_reads (happens (length more))) ∷ []) [] false)
       heard_at e f r v u log more reads turns trace found called =
           let w = session v log [] (suc (suc turns)) [] (stood (view v) reads ∷ []) [] false in
-          ap (λ (n : Nodes). heard p levels e (heard_by e.kind e.id n) w) (shown_in v log reads)
-          ∙ ap (λ (o : Option Value). heard p levels e o w) found
-          ∙ ap (λ (o : Outcome Running Value). after (put_back (λ s. record w { running = s }) o) (λ a. ◌>>◌ (settled p levels) (block p levels false))) called
-          ∙ ap (λ (o : Outcome Session (Unit {0})). after o (λ a. block p levels false)) (settles (suc turns) (view v) reads u more [] turns trace [] false)
+          ap (λ (n : Nodes). heard (whole p levels) e (heard_by e.kind e.id n) w) (shown_in v log reads)
+          ∙ ap (λ (o : Option Value). heard (whole p levels) e o w) found
+          ∙ ap (λ (o : Outcome Running Value). after (put_back (λ s. record w { running = s }) o) (λ a. ◌>>◌ (settled (whole p levels)) (block (whole p levels) false))) called
+          ∙ ap (λ (o : Outcome Session (Unit {0})). after o (λ a. block (whole p levels) false)) (settles (suc turns) (view v) reads u more [] turns trace [] false)
           ∙ gives_block false u more turns (trace ++ happens (length more)) (own_reads (happens (length more))) [] false
 
       -- ---- the first render
 
-      module _ (k : ℤ) (mounts : (turns : ℕ) → entering p levels Pure [] (Closure component end false) (Ref 0 ∷ [])
-          (record { heap = Props end ∷ []; log = []; lines = []; turns = suc turns; trace = []; locals = end; hooking = Mounting [] [] [] }) ≡ Gives (view k) (run_in k [] [] turns (happens 0) (Mounting [] [] hooks))) where
-        mounted_so : (turns : ℕ) → take_or_mount p levels (record { path = []; shown = Component component; fields = end }) (session_in nothing_yet (suc turns))
-            ≡ Gives (view k) (session k [] [] turns (happens 0) [] (stood (view k) (own_reads (happens 0)) ∷ []) true)
+      module _ (k : ℤ) (mounts : (turns : ℕ) → entering p called_anew levels Pure [] (Closure component end false) (Ref 0 ∷ [])
+          (record { heap = Props end ∷ []; log = []; lines = []; turns = suc turns; trace = []; locals = end; hooking = Mounting [] [] []; kept = [] }) ≡ Gives (view k) (run_in k [] [] turns mounting (Mounting [] [] hooks))) where
+        mounted_so : (turns : ℕ) → take_or_mount p called_anew levels (record { path = []; shown = Component component; fields = end }) (session_in nothing_yet (suc turns))
+            ≡ Gives (view k) (session k [] [] turns mounting [] (stood (view k) (own_reads mounting) ∷ []) true)
         mounted_so turns = rw (mounts turns)
 
-        first_pass : (turns : ℕ) → pass p levels (session_in nothing_yet (suc turns)) ≡ Gives tt (session k [] [] turns (happens 0) (stood (view k) (own_reads (happens 0)) ∷ []) [] true)
+        first_pass : (turns : ℕ) → pass (whole p levels) (session_in nothing_yet (suc turns)) ≡ Gives (nodes_of k) (session k [] [] turns mounting (stood (view k) (own_reads mounting) ∷ []) [] true)
         first_pass turns =
-            ap (λ (a : Shown). after (expand_app (take_or_mount p levels) lines_in a (session_in nothing_yet (suc turns))) (λ nodes. becomes (λ s. record s { instances = s.executed; executed = [] }))) app
-            ∙ ap (λ (o : Outcome Session Nodes). after o (λ nodes. becomes (λ s. record s { instances = s.executed; executed = [] })))
-            (expands (take_or_mount p levels) lines_in k (session_in nothing_yet (suc turns)) (session k [] [] turns (happens 0) [] (stood (view k) (own_reads (happens 0)) ∷ []) true) (mounted_so turns))
+            ap (λ (a : Shown). after (expand_app (take_or_mount p called_anew levels) a (session_in nothing_yet (suc turns))) (λ nodes. ◌>>◌ (becomes (λ s. record s { instances = s.executed; executed = [] })) (give nodes))) app
+            ∙ ap (λ (o : Outcome Session Nodes). after o (λ nodes. ◌>>◌ (becomes (λ s. record s { instances = s.executed; executed = [] })) (give nodes)))
+            (expands (take_or_mount p called_anew levels) k (session_in nothing_yet (suc turns)) (session k [] [] turns mounting [] (stood (view k) (own_reads mounting) ∷ []) true) (mounted_so turns))
 
-        pub renders : (turns : ℕ) → first_render p levels (session_in nothing_yet (suc (suc turns)))
-            ≡ Gives (shows_block false k) (session k [] [] turns (happens 0 ++ happens 0) (stood (view k) (own_reads (happens 0)) ∷ []) [] false)
+        pub renders : (turns : ℕ) → first_render (whole p levels) (session_in nothing_yet (suc (suc turns)))
+            ≡ Gives (shows_block false k) (session k [] [] turns (mounting ++ happens 0) (stood (view k) (own_reads (happens 0)) ∷ []) [] false)
         renders turns =
-            ap (λ (o : Outcome Session (Unit {0})). after (after o (λ u s. chosen (is_quiet 0 s) (give tt) (settled_within p levels (suc (suc turns))) s)) (λ a. block p levels false)) (first_pass (suc turns))
-            ∙ ap (λ (o : Outcome Session (Unit {0})). after o (λ a. block p levels false)) (settles (suc turns) (view k) (own_reads (happens 0)) k [] [] turns (happens 0) [] true)
-            ∙ gives_block false k [] turns (happens 0 ++ happens 0) (own_reads (happens 0)) [] false
+            ap (λ (o : Outcome Session Nodes). after (after o (λ u s. chosen (is_quiet 0 s) (give tt) (settled_within (whole p levels) (suc (suc turns))) s)) (λ a. block (whole p levels) false)) (first_pass (suc turns))
+            ∙ ap (λ (o : Outcome Session (Unit {0})). after o (λ a. block (whole p levels) false)) (settles (suc turns) (view k) (own_reads mounting) k [] [] turns mounting [] true)
+            ∙ gives_block false k [] turns (mounting ++ happens 0) (own_reads (happens 0)) [] false

@@ -11,7 +11,7 @@ use Rattle.qk_ast.specs.Sources.{Named_module}
 use Rattle.qk_meaning.specs.Sites.{site_of, code_of, code_from}
 use Rattle.qk_meaning.specs.Roots.{root_of}
 use Rattle.qk_ast.specs.Uses.{free_of}
-use Rattle.qk_meaning.specs.Readings.{program_of, app_of}
+use Rattle.qk_meaning.specs.Readings.{program_of}
 use Rattle.qk_meaning.specs.Making.{root_shown}
 use Rattle.qk_first.proofs.Words.{root, component_site, listener_site, first_module, body_of, element, bump}
 use Rattle.qk_first.proofs.Texts.{text_own}
@@ -38,7 +38,7 @@ module _ (imported : List Text) (n tag : Text) (signal : Option ℤ) (shows : Bo
       entry true = Framework (codes "App")
       entry false = Shows (Component component_site)
 
-  pub app_is : is_listed (codes "App") imported ≡ false → app_of (program_of modules) ≡ Component component_site
+  pub app_is : is_listed (codes "App") imported ≡ false → (program_of modules).app ≡ Component component_site
   app_is h = ap root_shown (app_root h)
 
   pub hook_root : is_listed (codes "useSignal") imported ≡ true → root_of modules (root) (codes "useSignal") ≡ Framework (codes "useSignal")

@@ -3,15 +3,16 @@ use Rattle.std.specs.Prelude.{◌≡◌, refl, ℕ, suc, ◌+◌, ◌≤◌, ℤ
 use Rattle.std.proofs.Common.{ap, ◌∙◌, arith}
 use mathlib.Core.Path.{sym}
 use Rattle.qk_ast.specs.First.{First_attribute, Id, On_click}
+use Rattle.qk_meaning.specs.Setting.{called_anew}
 use Rattle.qk_meaning.specs.Value.{Text, Component, Value, Int, Ref, Closure, end}
 use Rattle.qk_meaning.specs.World.{Object, Props, Loc, Read, Hook, World}
 use Rattle.qk_meaning.specs.Program.{Program}
 use Rattle.qk_meaning.specs.Operators.{safe, Is}
 use Rattle.qk_meaning.specs.Doing.{Gives}
-use Rattle.qk_meaning.specs.Running.{Running, Effect, Pure, At_site, Happening, Entered, Did_read, Did_act, Hooking, Outside, Mounting, Again}
+use Rattle.qk_meaning.specs.Happening.{At_site, Happening, Entered, Did_read, Did_act, Did_log}
+use Rattle.qk_meaning.specs.Running.{Running, Effect, Pure, Hooking, Outside, Mounting, Again}
 use Rattle.qk_meaning.specs.Evaluation.{entering}
 use Rattle.qk_meaning.specs.Trace.{own_reads}
-use Rattle.qk_meaning.specs.Readings.{app_of}
 use Rattle.qk_meaning.specs.Settling.{due_hook}
 use Rattle.qk_meaning.specs.Session.{session_in}
 use Rattle.qk_meaning.specs.Item.{Event, Limits, records_of}
@@ -53,10 +54,10 @@ listener_is [] = refl
 listener_is (Id w ∷ more) = listener_is more
 listener_is (On_click up ∷ more) = refl
 
-module _ (p : Program) (levels : ℕ) (c : Counter) (n : Text) (list : Listing c.attributes) (tagged : IsTag c.tag) (app : app_of p ≡ Component component_site)
-    (rest : ℤ → List Object) (hooks : List Hook) (idle : (log : List Loc) → due_hook log 0 0 hooks ≡ None) (told : ℕ → List Happening) where
+module _ (p : Program) (levels : ℕ) (c : Counter) (n : Text) (list : Listing c.attributes) (tagged : IsTag c.tag) (app : p.app ≡ Component component_site)
+    (rest : ℤ → List Object) (hooks : List Hook) (idle : (log : List Loc) → due_hook log 0 0 hooks ≡ None) (first_told : List Happening) (told : ℕ → List Happening) where
   abbrev page : passes.Page
-  page = record { component = component_site; tag = c.tag; attributes = attribute_fields n c.attributes; shows = c.shows; rest = rest; hooks = hooks; told = told }
+  page = record { component = component_site; tag = c.tag; attributes = attribute_fields n c.attributes; shows = c.shows; rest = rest; hooks = hooks; first_told = first_told; told = told }
 
   abbrev run_in : ℤ → List Loc → ℕ → List Happening → Hooking → Running
   run_in v log turns trace hooking = passes.run_in p levels page app idle v log [] turns trace hooking
@@ -66,6 +67,9 @@ module _ (p : Program) (levels : ℕ) (c : Counter) (n : Text) (list : Listing c
 
   abbrev happens : ℕ → List Happening
   happens at = passes.happens p levels page app idle at
+
+  abbrev mounting : List Happening
+  mounting = passes.mounting p levels page app idle
 
   abbrev world : ℤ → List Loc → List Read → World
   world v log reads = record { heap = Props end ∷ rest v; log = log; lines = []; instances = passes.stood p levels page app idle (view v) reads ∷ [] }
@@ -78,15 +82,15 @@ module _ (p : Program) (levels : ℕ) (c : Counter) (n : Text) (list : Listing c
   more = value_in 1 ∷ []
 
   abbrev trace : List Loc → List Happening
-  trace log = Entered (At_site listener_site) ∷ Did_read (record { loc = value_in 1; at = length log }) ∷ Did_act 1 ∷ []
+  trace log = Entered (At_site listener_site) ∷ Did_read (record { loc = value_in 1; at = length log }) ∷ Did_act 1 ∷ Did_log (value_in 1) ∷ []
 
   -- what the component's function does where its instance stands, and what the listener does
   pub record Does : Type 0 where
     pub again : (v : ℤ) (log : List Loc) (lines : List Text) (turns : ℕ) (before : List Happening)
-        → entering p levels Pure [] (Closure component_site end false) (Ref 0 ∷ []) (record { heap = Props end ∷ rest v; log = log; lines = lines; turns = suc turns; trace = before; locals = end; hooking = Again hooks })
-        ≡ Gives (view v) (record { heap = Props end ∷ rest v; log = log; lines = lines; turns = turns; trace = before ++ happens (length log); locals = end; hooking = Again [] })
+        → entering p called_anew levels Pure [] (Closure component_site end false) (Ref 0 ∷ []) (record { heap = Props end ∷ rest v; log = log; lines = lines; turns = suc turns; trace = before; locals = end; hooking = Again hooks; kept = [] })
+        ≡ Gives (view v) (record { heap = Props end ∷ rest v; log = log; lines = lines; turns = turns; trace = before ++ happens (length log); locals = end; hooking = Again []; kept = [] })
     pub counts : has_listener c.attributes ≡ true → (v : ℤ) (arguments : List Value) (log : List Loc) (turns : ℕ) → safe (moved (up_of c.attributes) v) ≡ Is (Int (moved (up_of c.attributes) v))
-        → entering p levels Effect [] (own_listener n) arguments (run_in v log (suc turns) [] Outside)
+        → entering p called_anew levels Effect [] (own_listener n) arguments (run_in v log (suc turns) [] Outside)
         ≡ Gives (Int v) (run_in (moved (up_of c.attributes) v) (log ++ more) turns (trace log) Outside)
 
   -- the run from an item on, and what is printed of it
@@ -164,15 +168,15 @@ module _ (p : Program) (levels : ℕ) (c : Counter) (n : Text) (list : Listing c
       pub run : Run p (λ w. w) (map Happens events) entries
       pub prints : output p entries ≡ first_output c events
 
-    pub runs_whole : (mounts : (turns : ℕ) → entering p levels Pure [] (Closure component_site end false) (Ref 0 ∷ [])
-        (record { heap = Props end ∷ []; log = []; lines = []; turns = suc turns; trace = []; locals = end; hooking = Mounting [] [] [] }) ≡ Gives (view c.initial) (run_in c.initial [] turns (happens 0) (Mounting [] [] hooks)))
+    pub runs_whole : (mounts : (turns : ℕ) → entering p called_anew levels Pure [] (Closure component_site end false) (Ref 0 ∷ [])
+        (record { heap = Props end ∷ []; log = []; lines = []; turns = suc turns; trace = []; locals = end; hooking = Mounting [] [] []; kept = [] }) ≡ Gives (view c.initial) (run_in c.initial [] turns mounting (Mounting [] [] hooks)))
         → (events : List Event) → nat_abs c.initial + length events ≤ 2000000 → RunsWhole events
     runs_whole mounts events room =
         let r = runs_from events 1 c.initial [] (own_reads (happens 0)) room in
         record {
           entries = Played (record { none = false; lines = []; html = first_html c c.initial }) (world c.initial [] (own_reads (happens 0))) ∷ r.entries;
           run = rendered limits (record { none = false; lines = []; html = first_html c c.initial })
-              (passes.session p levels page app idle c.initial [] [] 98 (happens 0 ++ happens 0) (passes.stood p levels page app idle (view c.initial) (own_reads (happens 0)) ∷ []) [] false)
+              (passes.session p levels page app idle c.initial [] [] 98 (mounting ++ happens 0) (passes.stood p levels page app idle (view c.initial) (own_reads (happens 0)) ∷ []) [] false)
               (passes.renders p levels page app idle does.again (first_html c) (fits c n list tagged) c.initial mounts 98)
               r.run;
           prints = ap (λ (t : Text). t ++ output_from p 1 r.entries) (block_is c p 0 false c.initial (world c.initial [] (own_reads (happens 0))) (printed_is c.initial))

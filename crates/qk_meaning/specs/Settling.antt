@@ -3,14 +3,12 @@ use Rattle.std.specs.Prelude.{ℕ, zero, suc, Bool, true, false, not, ◌&&◌, 
 use Rattle.std.specs.List.{list_any}
 use Rattle.qk_meaning.specs.World.{Loc, Task, Hook, Tasked, Instance, World}
 use Rattle.qk_meaning.specs.Places.{same_location}
-use Rattle.qk_meaning.specs.Program.{Program}
 use Rattle.qk_meaning.specs.Doing.{Doing, ◌>>=◌, ◌>>◌, give, asked, becomes, chosen, ended}
-use Rattle.qk_meaning.specs.Running.{Effect, told_apart}
-use Rattle.qk_meaning.specs.Trace.{tracked_reads}
-use Rattle.qk_meaning.specs.Readings.{app_of}
-use Rattle.qk_meaning.specs.Expansion.{expand_app}
-use Rattle.qk_meaning.specs.Session.{Session, world_of, runs, lines_in}
-use Rattle.qk_meaning.specs.Execution.{called_in, take_or_mount}
+use Rattle.qk_meaning.specs.Running.{Effect}
+use Rattle.qk_meaning.specs.Trace.{tracked_in}
+use Rattle.qk_meaning.specs.Expansion.{Nodes, expand_app}
+use Rattle.qk_meaning.specs.Session.{Session, world_of, runs}
+use Rattle.qk_meaning.specs.Manner.{Manner, called_by}
 
 -- a task is due where the log, from its length at the start of the task's last run, holds a location that this run read inside `track`
 abbrev pub is_due : List Loc → Task → Bool
@@ -52,21 +50,22 @@ put_task (suc n) h task (i ∷ rest) = i ∷ put_task n h task rest
 abbrev pub is_quiet : ℕ → Session → Bool
 is_quiet logged_before w = not w.mounted && ((length w.running.log == logged_before) && not (is_some (first_due (world_of w))))
 
-module _ (program : Program) (levels : ℕ) where
-  -- a pass expands from `App`; the instances afterwards are those that were executed in it, so what wasn't met is gone
-  abbrev pub pass : Doing Session (Unit {0})
+module _ (manner : Manner) where
+  -- a pass expands from `App`; the instances afterwards are those that were met in it, so what wasn't met is gone
+  abbrev pub pass : Doing Session Nodes
   pass = do
     becomes (λ w. record w { executed = []; mounted = false })
-    nodes ← expand_app (take_or_mount program levels) lines_in (app_of program)
+    nodes ← expand_app manner.visit manner.program.app
     becomes (λ w. record w { instances = w.executed; executed = [] })
+    give nodes
 
   -- a run of a task: its function is called in Effect, and the task keeps what this run read inside `track`
   abbrev pub run_task : Spot → Doing Session (Unit {0})
   run_task spot = do
     began ← asked (λ w. length w.running.log)
-    run ← runs (told_apart (called_in program levels Effect spot.task.run []))
+    run ← runs (tracked_in (called_by manner Effect spot.task.run []))
     becomes (λ w. record w {
-      instances = put_task spot.instance spot.hook (record { run = spot.task.run; tracked = tracked_reads run.1; began = began }) w.instances;
+      instances = put_task spot.instance spot.hook (record { run = spot.task.run; tracked = run.1; began = began }) w.instances;
     })
 
   -- a round runs the first due task, or where none is due makes a pass; unless that was quiet, settling goes on
@@ -76,7 +75,7 @@ module _ (program : Program) (levels : ℕ) where
     go_on
   round go_on None = do
     before ← asked (λ w. length w.running.log)
-    pass
+    nodes ← pass
     quiet ← asked (is_quiet before)
     chosen quiet (give tt) go_on
 

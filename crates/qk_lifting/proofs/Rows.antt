@@ -1,0 +1,10 @@
+-- The files of some applications, computed.
+pub mod Trees
+pub mod Keeping
+mod Counter
+mod Nested_dollar_functions
+mod Shadowed
+mod Imports
+mod Tasks
+mod Many
+mod Refused

@@ -1,0 +1,5 @@
+use Rattle.qk_meaning.proofs.laws.fronts_played.Goals as goal
+use Rattle.qk_meaning.proofs.Fronts as law
+
+pub returns : goal.returns
+returns c = law.fronts_played

@@ -1,0 +1,5 @@
+use Rattle.qk_meaning.proofs.laws.index_written.Goals as goal
+use Rattle.qk_meaning.proofs.Changed as law
+
+pub returns : goal.returns
+returns c = law.index_written

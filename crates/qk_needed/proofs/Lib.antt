@@ -1,0 +1,16 @@
+pub mod Rows
+pub mod Same_equal
+pub mod Repeating_laws
+pub mod Repeating
+pub mod Repeating_code
+pub mod Reads_decide
+pub mod Needed_laws
+pub mod Needed_limits
+pub mod Adding_kept
+pub mod Found
+pub mod Expansion_keeps
+pub mod Quiet_calls
+pub mod Settles
+pub mod Quiet_passes
+pub mod Resumed
+pub mod Unlogged

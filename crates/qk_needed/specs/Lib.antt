@@ -1,0 +1,6 @@
+pub mod Needed
+pub mod Needed_item
+pub mod Deciding
+pub mod Tidy
+pub mod Laws
+pub mod Unlogged

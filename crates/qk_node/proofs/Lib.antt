@@ -1,0 +1,6 @@
+pub mod Trees
+pub mod Left
+pub mod Same_arrows
+pub mod Forms
+pub mod Same_uses
+pub mod Same_mentions

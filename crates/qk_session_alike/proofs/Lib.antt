@@ -1,0 +1,9 @@
+pub mod Expanded
+pub mod Shown
+pub mod Props_set
+pub mod Executed
+pub mod Sessions_kept
+pub mod Played
+pub mod Items_alike
+pub mod Scripts
+pub mod Runs

@@ -1,0 +1,3 @@
+pub mod Trees_stand
+pub mod Sessions_stand
+pub mod Laws

@@ -1,0 +1,11 @@
+pub mod Same_code
+pub mod Captured
+pub mod Two_readings
+pub mod Membership
+pub mod Kept_modules
+pub mod Arrows_found
+pub mod Symbols
+pub mod Literals_stand
+pub mod Framework_used
+pub mod Roots_alike
+pub mod Accepted_rules

@@ -1,0 +1,4 @@
+pub mod Every
+pub mod Source_rules
+pub mod Accepted
+pub mod Laws
