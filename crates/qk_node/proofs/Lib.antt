@@ -1,5 +1,4 @@
 pub mod Trees
-pub mod Left
 pub mod Same_arrows
 pub mod Forms
 pub mod Same_uses
