@@ -8,24 +8,39 @@ Each figure is the best of many runs of the whole process. `growth` is the time 
 the process (an empty script); 2.0 is linear."""
 import os, subprocess, sys, tempfile, time
 
-top = os.path.dirname(os.path.dirname(os.path.abspath(__file__)))
-program = os.path.join(top, "crates", "qwk", "out", "qwk")
-if not os.access(program, os.X_OK):
-    subprocess.run([os.path.join(top, "qwk")], stdout=subprocess.DEVNULL)
+sys.dont_write_bytecode = True
+from programs import TOP, program
+
+qwk = program("qwk")
 
 
-def best(folder, script, out, runs=100):
+def blocks(clicks):
+    """What is printed of so many clicks."""
+    shown = lambda item: f'item {item}\nhtml <button id="b">{item}</button>\n'
+    return "".join(map(shown, range(clicks + 1)))
+
+
+def check(folder, script, printed, status):
+    """The run prints this and ends so."""
+    run = subprocess.run([qwk, "replay", script], cwd=folder, capture_output=True, text=True)
+    if (run.stdout, run.returncode, run.stderr) != (printed, status, ""):
+        raise SystemExit(f"{script}: {run.stdout[-200:]!r} ({run.returncode}) {run.stderr}")
+
+
+def best(folder, script, out, status=0, runs=100):
     times = []
     for _ in range(runs):
         with open(out, "wb") as sink:
             begin = time.perf_counter()
-            subprocess.run([program, "replay", script], cwd=folder, stdout=sink)
+            ended = subprocess.run([qwk, "replay", script], cwd=folder, stdout=sink).returncode
             times.append(time.perf_counter() - begin)
+        if ended != status:
+            raise SystemExit(f"{script}: status {ended}")
     return min(times) * 1000
 
 
 with tempfile.TemporaryDirectory() as folder:
-    with open(os.path.join(top, "examples", "counter", "root.jsx"), "rb") as source:
+    with open(os.path.join(TOP, "examples", "counter", "root.jsx"), "rb") as source:
         root = source.read()
     with open(os.path.join(folder, "root.jsx"), "wb") as copy:
         copy.write(root)
@@ -39,7 +54,9 @@ with tempfile.TemporaryDirectory() as folder:
     for clicks in (1250, 2500, 5000):
         write("script", "click b\n" * clicks)
         write("refused", "click b\n" * (clicks - 1) + "pause\n")
-        reading = best(folder, "refused", os.devnull)
+        check(folder, "script", blocks(clicks), 0)
+        check(folder, "refused", "refused NotBuilt\n", 5)
+        reading = best(folder, "refused", os.devnull, status=5)
         played = best(folder, "script", os.devnull)
         whole = best(folder, "script", os.path.join(folder, "printed"))
         work = whole - start

@@ -9,11 +9,9 @@ import os, subprocess, sys, tempfile
 
 sys.dont_write_bytecode = True
 from pages import pages
+from programs import program
 
-top = os.path.dirname(os.path.dirname(os.path.abspath(__file__)))
-program = os.path.join(top, "crates", "qwk", "out", "qwk")
-if not os.access(program, os.X_OK):
-    subprocess.run([os.path.join(top, "qwk")], stdout=subprocess.DEVNULL)
+qwk = program("qwk")
 
 IMPORT = 'import { component$, useComputed$, useSignal, useStore } from "@builder.io/qwik";\n'
 APP = 'export const App = component$(() => <p>{"all"}</p>);\n'
@@ -75,11 +73,13 @@ def many_modules(count):
 
 
 def run(folder):
-    """The processor seconds of a run, and what it answers."""
+    """The processor seconds of a run that ends with status 2, and what it answers."""
     with tempfile.TemporaryFile() as out:
-        child = subprocess.Popen([program, "replay", "s"], cwd=folder, stdout=out)
-        _, _, used = os.wait4(child.pid, 0)
-        child.returncode = 0
+        child = subprocess.Popen([qwk, "replay", "s"], cwd=folder, stdout=out)
+        _, ended, used = os.wait4(child.pid, 0)
+        child.returncode = os.waitstatus_to_exitcode(ended)
+        if child.returncode != 2:
+            raise SystemExit(f"status {child.returncode}")
         out.seek(0)
         return used.ru_utime + used.ru_stime, out.read().decode().strip()
 

@@ -10,12 +10,9 @@ import os, shutil, subprocess, sys, tempfile
 
 sys.dont_write_bytecode = True
 from pages import pages
+from programs import program
 
-top = os.path.dirname(os.path.dirname(os.path.abspath(__file__)))
-crate = os.path.join(top, "crates", "qk_reprint")
-program = os.path.join(crate, "out", "qk_reprint")
-if not os.access(program, os.X_OK):
-    subprocess.run(["rt", "run"], cwd=crate, stdout=subprocess.DEVNULL, stderr=subprocess.DEVNULL)
+reprint = program("qk_reprint")
 esbuild = shutil.which("esbuild")
 
 IMPORT = 'import { component$, useComputed$, useSignal, useStore } from "@builder.io/qwik";\n'
@@ -58,9 +55,19 @@ def seconds(command, folder):
     """The processor seconds of a run."""
     child = subprocess.Popen(command, cwd=folder, stdout=subprocess.DEVNULL, stderr=subprocess.DEVNULL,
                              env={**os.environ, "GOMAXPROCS": "1"})
-    _, _, used = os.wait4(child.pid, 0)
-    child.returncode = 0
+    _, ended, used = os.wait4(child.pid, 0)
+    child.returncode = os.waitstatus_to_exitcode(ended)
+    if child.returncode:
+        raise SystemExit(f"{command[0]}: status {child.returncode}")
     return used.ru_utime + used.ru_stime
+
+
+def check(text, folder):
+    """What we print has each item of the text, one a line, in order, and its import first."""
+    printed = subprocess.run(OURS, cwd=folder, stdout=subprocess.PIPE, text=True, check=True).stdout.splitlines()
+    names = [line.split()[2] for line in text.splitlines() if line.startswith("export const ")]
+    if not printed[0].startswith("import {") or [line.split()[2] for line in printed[1:]] != names:
+        raise SystemExit("another module is printed")
 
 
 def size(command, folder):
@@ -73,7 +80,7 @@ def best(measure, command, folder, runs=20):
     return min(measure(command, folder) for _ in range(runs))
 
 
-OURS = [program, "root.jsx"]
+OURS = [reprint, "root.jsx"]
 THEIRS = [esbuild, "--jsx=preserve", "--loader:.jsx=jsx", "root.jsx"] if esbuild else None
 
 with tempfile.TemporaryDirectory() as folder:
@@ -90,6 +97,7 @@ with tempfile.TemporaryDirectory() as folder:
     for kib in (64, 256, 1024):
         text = module(kib * 1024)
         write("root.jsx", text)
+        check(text, folder)
         whole, resident = best(seconds, OURS, folder) * 1000, best(size, OURS, folder, 3)
         work = whole - start
         growth = "" if before is None else f"{work / before:.2f}"

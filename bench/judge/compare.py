@@ -1,13 +1,14 @@
 #!/usr/bin/env python3
 """Runs the built program beside the judge on made applications, and prints where they differ.
 
-compare.py PROGRAM N SEED [--rules] [--examples] [--stop K]
+compare.py PROGRAM N SEED [--small SHARE] [--examples] [--stop K]
 
-Each application is played with an empty script in a folder of its own. Without `--rules` only the
-faults of `root.jsx` as a text are compared, and an application that the program calls NotBuilt may
-be any whose root has none. With `--rules` every refusal is compared. `--examples` first compares
-the judge with the answers written beside its own examples, and plays these too. It stops after K
-differences (5 else). A difference is made small before it is printed.
+Each application is played with an empty script in a folder of its own, and all that is printed and
+the status are compared with what the judge says: the line of the first refusal, or of an accepted
+application what `first.py` says is printed of it. That share of the applications are small texts
+that are hardly one. `--examples` first compares the judge with the answers written beside its own
+examples, and plays these too. It stops after K differences (5 else). A difference is made small
+before it is printed. At the end stands how many applications reached which rule.
 """
 
 import argparse
@@ -23,7 +24,8 @@ sys.path.insert(0, os.path.dirname(os.path.abspath(__file__)))
 
 from applications import applications, safe_tokens  # noqa: E402
 from examples import ACCEPTED, CASES, LARGE_CASES, SITES, application  # noqa: E402
-from rules import Accepted, Refused, judge, parse_bytes  # noqa: E402
+from first import played  # noqa: E402
+from rules import Refused, judge  # noqa: E402
 
 LIMIT_SECONDS = 300
 MOST_TRIES = 600
@@ -37,7 +39,7 @@ class Program:
         self.folder = tempfile.mkdtemp()
 
     def answer(self, files):
-        """The last line and the status for these files."""
+        """What is printed and the status for these files."""
         for old in os.listdir(self.folder):
             path = os.path.join(self.folder, old)
             shutil.rmtree(path) if os.path.isdir(path) else os.remove(path)
@@ -50,44 +52,29 @@ class Program:
             )
         except subprocess.TimeoutExpired:
             return "no answer in time", None
-        lines = run.stdout.decode("utf-8", "replace").rstrip("\n").split("\n")
-        line = lines[-1] + (" and standard error" if run.stderr else "")
-        return line, run.returncode
+        printed = run.stdout.decode("utf-8", "replace")
+        return printed + ("and standard error" if run.stderr else ""), run.returncode
 
     def close(self):
         """Drops the folder."""
         shutil.rmtree(self.folder)
 
 
-def root_verdict(files):
-    """The verdict on `root.jsx` as a text alone."""
-    if "root.jsx" not in files:
-        return Refused("RootMissing", "root", "-")
-    answer = parse_bytes("root", files["root.jsx"])
-    return answer if isinstance(answer, Refused) and answer.kind != "NotUtf8" else Accepted([], {})
+def wanted(said):
+    """What is to be printed, and the status."""
+    return (f"{said}\n", 2) if isinstance(said, Refused) else played(said.modules)
 
 
-def verdict(files, rules):
-    """What the judge says."""
-    return judge(files) if rules else root_verdict(files)
-
-
-def agrees(said, line, status):
-    """Whether the program's last line and status are what the judge says."""
-    if isinstance(said, Refused):
-        return (line, status) == (str(said), 2)
-    if line == "refused NotBuilt root -":
-        return status == 2
-    return not line.startswith("refused") and status in (0, 3, 4)
-
-
-def differs(program, files, rules):
+def differs(program, files):
     """What both say, where they differ."""
-    said = verdict(files, rules)
-    line, status = program.answer(files)
-    if agrees(said, line, status):
-        return None
-    return ("accepted" if isinstance(said, Accepted) else str(said)), f"{line} ({status})"
+    said, answer = wanted(judge(files)), program.answer(files)
+    return None if said == answer else (shown(said), shown(answer))
+
+
+def shown(answer):
+    """Something printed and its status on one line."""
+    printed, status = answer
+    return f"{printed!r} ({status})"
 
 
 def kinds(difference):
@@ -109,13 +96,13 @@ def smaller(files, size):
             yield {**files, name: (text[: cuts[at]] + text[end:]).encode("utf-8", "replace")}
 
 
-def shrink(program, files, rules, difference):
+def shrink(program, files, difference):
     """A smaller example of the same difference."""
     wanted, tries, size = kinds(difference), 0, 64
     while size and tries < MOST_TRIES:
         for candidate in smaller(files, size):
             tries += 1
-            found = differs(program, candidate, rules)
+            found = differs(program, candidate)
             if found and kinds(found) == wanted:
                 files, difference = candidate, found
                 break
@@ -128,7 +115,7 @@ def shrink(program, files, rules, difference):
 
 def show(number, files, difference):
     """Prints one difference."""
-    print(f"difference at {number}: the judge says {difference[0]!r}, the program {difference[1]!r}")
+    print(f"difference at {number}: the judge says {difference[0]}, the program {difference[1]}")
     for name, data in sorted(files.items()):
         print(f"--- {name} ({len(data)} bytes)\n{data[:2000].decode('utf-8', 'replace')}")
     print(flush=True)
@@ -145,7 +132,7 @@ def check_examples():
     wrong = 0
     for files, wanted in all_examples():
         said = judge(files)
-        got = "ok" if isinstance(said, Accepted) else str(said).removeprefix("refused ")
+        got = str(said).removeprefix("refused ") if isinstance(said, Refused) else "ok"
         if got != wanted:
             wrong += 1
             print(f"example: wanted {wanted!r}, got {got!r}\n{str(files)[:300]}")
@@ -166,29 +153,28 @@ def all_applications(arguments):
     """The applications to play: the examples where they are asked for, then the made ones."""
     if arguments.examples:
         yield from (files for files, _ in all_examples())
-    small = 0.0 if arguments.rules else 0.8
-    yield from itertools.islice(applications(arguments.seed, small), arguments.number)
+    yield from itertools.islice(applications(arguments.seed, arguments.small), arguments.number)
 
 
 def compare(program, arguments):
     """Compares application after application; how many differ."""
     found = number = 0
-    kinds_met = {}
+    reached = {}
     for number, files in enumerate(all_applications(arguments), 1):
         if number % 200 == 0:
             print(f"{number} so far, {found} differences", file=sys.stderr, flush=True)
-        said = verdict(files, arguments.rules)
-        kind = said.kind if isinstance(said, Refused) else "accepted"
-        kinds_met[kind] = kinds_met.get(kind, 0) + 1
-        difference = differs(program, files, arguments.rules)
+        said = judge(files)
+        rule = said.rule if isinstance(said, Refused) else "accepted"
+        reached[rule] = reached.get(rule, 0) + 1
+        difference = differs(program, files)
         if difference:
             found += 1
-            show(number, *shrink(program, files, arguments.rules, difference))
+            show(number, *shrink(program, files, difference))
             if found >= arguments.stop:
                 print("stopped")
                 break
     print(f"{number} applications, {found} differences")
-    print(", ".join(f"{kind} {count}" for kind, count in sorted(kinds_met.items())))
+    print("".join(f"{count:8} {rule}\n" for rule, count in sorted(reached.items())), end="")
     return found
 
 
@@ -198,7 +184,7 @@ def main():
     parser.add_argument("program")
     parser.add_argument("number", type=int)
     parser.add_argument("seed", type=int)
-    parser.add_argument("--rules", action="store_true")
+    parser.add_argument("--small", type=float, default=0.0)
     parser.add_argument("--examples", action="store_true")
     parser.add_argument("--stop", type=int, default=5)
     arguments = parser.parse_args()

@@ -30,6 +30,7 @@ class Refusal(NamedTuple):
     number: float
     kind: str
     what: str
+    broken: str = ""
 
 
 @dataclass(eq=False)

@@ -72,10 +72,10 @@ class Places:
         for node in nodes:
             self.check_node(node)
 
-    def refuse(self, at, kind, what, number=None):
+    def refuse(self, at, kind, what, broken="", number=None):
         """Notes a refusal."""
         number = KINDS.index(kind) + 1 if number is None else number
-        self.refusals.append(Refusal(at, number, kind, what))
+        self.refusals.append(Refusal(at, number, kind, what, broken))
 
     # What names mean.
 
@@ -164,9 +164,9 @@ class Places:
         """A root initialiser."""
         init = item.init
         if self.name == "root" and item.name.name == "App" and not is_component(init):
-            self.refuse(item.name.at, "NotComponent", "App", number=KINDS.index("RootValue") + 0.5)
+            self.refuse(item.name.at, "NotComponent", "App", "App of root", number=KINDS.index("RootValue") + 0.5)
         if not (is_component(init) or is_context(init) or isinstance(init, Arrow) or is_fixed_data(init)):
-            self.refuse(item.name.at, "RootValue", item.name.name)
+            self.refuse(item.name.at, "RootValue", item.name.name, "an initialiser")
 
     def check_node(self, node):
         """A name or a tag."""
@@ -182,32 +182,35 @@ class Places:
         if self.qwik(node):
             self.check_qwik(node)
         elif declaration.at in self.tracks and at not in self.well_placed:
-            self.refuse(at, "HookPlace", name)
+            self.refuse(at, "HookPlace", name, "track")
         elif self.is_listed(at, self.contexts) and at not in self.well_placed:
-            self.refuse(at, "HookPlace", name)
+            self.refuse(at, "HookPlace", name, "a context id elsewhere")
         elif self.is_listed(at, self.components):
-            self.refuse(at, "NotComponent", name)
+            self.refuse(at, "NotComponent", name, "a component elsewhere than as a tag")
 
     def check_qwik(self, node):
         """A Qwik name as an expression."""
         at, name = node.at, node.name
         arguments = self.calls.get(at)
-        if name in HOOKS and not self.hook_stands(at, name, arguments):
-            self.refuse(at, "HookPlace", name)
+        if name in HOOKS:
+            self.check_hook(at, name, arguments)
         if name in DOLLAR_CALLS and arguments is not None and not self.dollar_stands(name, arguments):
-            self.refuse(at, "DollarArgument", name)
+            self.refuse(at, "DollarArgument", name, "no one arrow" if not one_arrow(arguments) else "parameters")
         if not self.value_stands(at, name, arguments):
-            self.refuse(at, "RootValue", name)
+            self.refuse(at, "RootValue", name, "a framework name elsewhere")
 
-    def hook_stands(self, at, name, arguments):
-        """Whether a hook keeps the hook rules."""
-        if at not in self.well_placed or len(arguments) not in HOOK_COUNTS.get(name, (1,)):
-            return False
-        return name not in CONTEXT_HOOKS or self.is_id(arguments[0])
+    def check_hook(self, at, name, arguments):
+        """A hook, by the rules of hooks."""
+        if at not in self.well_placed:
+            self.refuse(at, "HookPlace", name, "a hook elsewhere")
+        elif len(arguments) not in HOOK_COUNTS.get(name, (1,)):
+            self.refuse(at, "HookPlace", name, "the number of arguments")
+        elif name in CONTEXT_HOOKS and not self.is_id(arguments[0]):
+            self.refuse(at, "HookPlace", name, "no context id")
 
     def dollar_stands(self, name, arguments):
         """Whether the arguments of a dollar call are one arrow with the right parameters."""
-        if len(arguments) != 1 or not isinstance(arguments[0], Arrow):
+        if not one_arrow(arguments):
             return False
         params = arguments[0].params
         if name == "component$":
@@ -235,16 +238,18 @@ class Places:
         if node.kind == "component" and not slot:
             self.check_component(at, tag)
         childless = slot or node.kind == "element" and tag in VOID_TAGS
-        if childless and node.children or node.kind == "element" and tag in LEFT_OUT_TAGS:
-            self.refuse(at, "TagRefused", tag)
+        if node.kind == "element" and tag in LEFT_OUT_TAGS:
+            self.refuse(at, "TagRefused", tag, "a tag that is left out")
+        elif childless and node.children:
+            self.refuse(at, "TagRefused", tag, "children")
         self.check_attributes(node, slot)
 
     def check_component(self, at, tag):
         """A capital tag other than `Slot`."""
         if self.is_listed(at, self.contexts):
-            self.refuse(at, "HookPlace", tag)
+            self.refuse(at, "HookPlace", tag, "a context id as a tag")
         if not self.is_listed(at, self.components):
-            self.refuse(at, "NotComponent", tag)
+            self.refuse(at, "NotComponent", tag, "a tag")
 
     def check_attributes(self, node, slot):
         """The attributes of one tag."""
@@ -252,11 +257,20 @@ class Places:
         for attribute in node.attributes:
             name = attribute.name
             event = name[2:-1].lower() if LISTENER.fullmatch(name) else None
-            if name in names or event in events or not attribute_stands(node, slot, attribute):
-                self.refuse(attribute.at, "TagRefused", name)
+            if name in names:
+                self.refuse(attribute.at, "TagRefused", name, "an attribute twice")
+            elif event in events:
+                self.refuse(attribute.at, "TagRefused", name, "an event twice")
+            elif not attribute_stands(node, slot, attribute):
+                self.refuse(attribute.at, "TagRefused", name, "an attribute")
             names.add(name)
             if event:
                 events.add(event)
+
+
+def one_arrow(arguments):
+    """Whether the arguments are one arrow."""
+    return len(arguments) == 1 and isinstance(arguments[0], Arrow)
 
 
 def attribute_stands(node, slot, attribute):

@@ -21,11 +21,17 @@ SOURCE_NAME = re.compile(r"\./([a-z][a-z0-9]{0,31})\.jsx")
 
 
 class Refused(NamedTuple):
-    """The line of a refusal."""
+    """The line of a refusal; `broken` says which rule of that kind is broken, where there are several."""
 
     kind: str
     module: str
     what: str
+    broken: str = ""
+
+    @property
+    def rule(self):
+        """The kind, and the rule of that kind."""
+        return f"{self.kind}: {self.broken}" if self.broken else self.kind
 
     def __str__(self):
         return f"refused {self.kind} {self.module} {self.what}"
@@ -113,7 +119,7 @@ def missing_export(modules):
 def first_refusal(module, refusals):
     """The refusal that comes first, at one place the lowest number."""
     first = min(refusals)
-    return Refused(first.kind, module, first.what)
+    return Refused(first.kind, module, first.what, first.broken)
 
 
 def root_names(modules, form):
