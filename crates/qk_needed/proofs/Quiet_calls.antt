@@ -50,7 +50,7 @@ reads_told n m (l ∷ rest) e = (e, reads_told n m rest e)
 
 one_kind : (o : Object) → One_kind o o
 one_kind (Plain f) = two_plain
-one_kind (Array v) = two_arrays (λ n h. refl)
+one_kind (Array v) = two_arrays
 one_kind (Signal v) = two_signals
 one_kind (Computed f) = one_computed
 one_kind (Props f) = two_props
@@ -199,5 +199,5 @@ module _ (G : List Object) (log0 : List Loc) where
   pub calls : (computed : Computed_reading) → Reads_quietly computed → (program : Program) (d : ℕ) → Calls_quietly (entering program computed d)
   calls computed C program zero mode q running f arguments = λ s i. tt
   calls computed C program (suc d) mode q running f arguments =
-      Code.enters_with [] G G Quiet laws (λ a. one_kind (object_at G a)) program computed computed (entering program computed d) (entering program computed d)
+      Code.enters_with [] G G Quiet laws (λ a m. (m, one_kind (object_at G a))) program computed computed (entering program computed d) (entering program computed d)
       (λ r r' under a g. C (entering program computed d) (calls computed C program d) r a g) (λ m p r r' under. calls computed C program d m p r) mode q running running (λ b p o. p) f arguments
