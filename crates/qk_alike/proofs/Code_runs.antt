@@ -22,7 +22,7 @@ use Rattle.qk_alike.specs.Code_stands as C
 use Rattle.qk_alike.proofs.Doing_laws.{Relation, Same, Settings_stand}
 use Rattle.qk_alike.proofs.Lists.{short_texts}
 use Rattle.qk_alike.proofs.Steps as S
-use Rattle.qk_alike.proofs.Made.{made_lem, lists_made, records_made, tag_told_lem, made_markup_lem, iterated_lem}
+use Rattle.qk_alike.proofs.Made.{made_lem, lists_made, records_made, tag_told_lem, made_markup_lem, all_items_lem}
 use Rattle.qk_alike.proofs.Referred.{named_lem, value_of_lem, valued_lem, stored_lem, removed_lem, fields_bound_lem, combines, old_values}
 use Rattle.qk_alike.proofs.Called.{callee_lem, call_lem, no_qrl, known_called_lem}
 use Rattle.qk_alike.proofs.Forms.{means, comes}
@@ -105,7 +105,7 @@ module _ {t : Ties} (apart : Apart t) {b : Start} {K : Relation} {here here' : S
     runs (C.ifs e then otherwise) = bind (values_come (refers e)) (λ v v' h. S.choose laws (facts.truths h) (block_runs then) (block_runs otherwise))
     runs (C.whiles e all) = repeats (values_come (refers e)) (block_runs all)
     runs (C.fors {name = name} e all) =
-        bind (values_come (refers e)) (λ v v' h. bind (iterated_lem w h) (λ vs ws hs. S.repeated_fors laws (λ x y k. scopes (name ∷ []) (bind (assigns name k) (λ x y d. block_runs all))) hs))
+        bind (values_come (refers e)) (λ v v' h. bind (all_items_lem w h) (λ vs ws hs. S.repeated_fors laws (λ x y k. scopes (name ∷ []) (bind (assigns name k) (λ x y d. block_runs all))) hs))
     runs C.breaks = gives broke
     runs C.continues = gives continued
     runs (C.blocks all) = block_runs all

@@ -2,9 +2,9 @@
 use Rattle.std.specs.Prelude.{◌≡◌, refl, ℕ, zero, suc, ◌+◌, ◌-◌, ◌<◌, ◌≤◌, ◌⊎◌, Bool, true, false, List, [], ◌∷◌, ◌++◌, length, drop, set, eqb}
 use Rattle.std.proofs.Common.{sym, ◌∙◌, ap, subst, arith, inl, inr}
 use Rattle.std.proofs.lemmas.List.{length-set, length-append}
-use Rattle.std.proofs.lemmas.Bool.{eqb-true, eqb-false}
+use Rattle.std.proofs.lemmas.Bool.{eqb-true, eqb-false, ltb-true, ltb-false}
 use Rattle.qk_meaning.specs.World.{Object}
-use Rattle.qk_meaning.specs.Heap.{object_at}
+use Rattle.qk_meaning.specs.Heap.{is_made, object_at}
 use Rattle.qk_meaning.specs.Ties.{Ties, Apart, Paired, Object_stands, Pairwise, no_more, one_more}
 use Rattle.qk_meaning.specs.Worlds_stand.{Heaps_stand}
 
@@ -119,6 +119,21 @@ module _ (t : Ties) (apart : Apart t) where
 
   pub beyond_left : {h h' : List Object} (a b k : ℕ) → Heaps_stand t h h' → Paired t.pairing a b → b ≡ length h' + k → a ≡ length h + k
   beyond_left {h} {h'} a b k hs ab e = apart.one_left a (length h + k) b ab (subst (λ x. Paired t.pairing (length h + k) x) (sym e) (hs.ahead k))
+
+  pub made_alike : {h h' : List Object} (a b : ℕ) → Heaps_stand t h h' → Paired t.pairing a b → is_made h a ≡ is_made h' b
+  made_alike {h} {h'} a b hs ab = go (is_made h a) (is_made h' b) refl refl
+    where
+      past : (n m : ℕ) → m ≤ n → n ≡ m + (n - m)
+      past n m l = omega arith
+
+      below : (n m k : ℕ) → n < m → n ≡ m + k → ⊥
+      below n m k l e = omega arith
+
+      go : (x y : Bool) → is_made h a ≡ x → is_made h' b ≡ y → x ≡ y
+      go true true p q = refl
+      go false false p q = refl
+      go true false p q = absurd (below a (length h) (b - length h') (ltb-true a (length h) p) (beyond_left a b (b - length h') hs ab (past b (length h') (ltb-false b (length h') q))))
+      go false true p q = absurd (below b (length h') (a - length h) (ltb-true b (length h') q) (beyond_right a b (a - length h) hs ab (past a (length h) (ltb-false a (length h) p))))
 
   pub heaps_set : {h h' : List Object} {o o' : Object} (a b : ℕ) → Heaps_stand t h h' → Paired t.pairing a b → Object_stands t o o' → Heaps_stand t (set h a o) (set h' b o')
   heaps_set {h} {h'} {o} {o'} a b hs ab k = record {

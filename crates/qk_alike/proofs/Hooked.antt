@@ -8,10 +8,10 @@ use Rattle.qk_meaning.specs.World.{Object, Step, Hook, Provided, Instance, Loc}
 use Rattle.qk_meaning.specs.Places.{is_above}
 use Rattle.qk_meaning.specs.Parts.{or_else}
 use Rattle.qk_meaning.specs.Happening.{The_task, Hook_kind, Signal_hook, Store_hook, Computed_hook, Task_hook, Provider_hook, Context_hook, Hook_answer}
-use Rattle.qk_meaning.specs.Running.{Effect, Hooking, Again, Told, Running}
+use Rattle.qk_meaning.specs.Running.{Effect, Hooking, Again, Told, is_outside, Running}
 use Rattle.qk_meaning.specs.Trace.{tracked_in}
 use Rattle.qk_meaning.specs.Setting.{Setting}
-use Rattle.qk_meaning.specs.Hooks.{thawed, thawed_items, thawed_fields, provided, context, one_more as one_hook_more, hook_made, kept_hook, is_list_or_record, signal_made, store_made, computed_made, words_of, value_provided, context_found, answer_at_mount, gave, all_made, answer_to, task_run, given_so, answered_hook, hook_called}
+use Rattle.qk_meaning.specs.Hooks.{thawed, thawed_items, thawed_fields, provided, context, one_more as one_hook_more, hook_made, kept_hook, is_list_or_record, signal_made, store_made, computed_made, words_of, value_provided, context_found, answer_at_mount, gave, all_made, answer_to, answer_told, task_run, given_so, answered_hook, hook_called}
 use Rattle.qk_meaning.specs.Ties.{Ties, Apart, Stands, undefined, null, truth, int, words, ref, items, fields, elem, closure, by_symbol, lifted, All_stand, none_stand, item_stands, Fields_stand, end_stands, field_stands, Found_stands, both_none, both_some, Pairwise, no_more, one_more, Object_stands, plain, array, signal, computed, Loc_stands}
 use Rattle.qk_meaning.specs.Worlds_stand.{Start, Hooks_stand, both_kept, both_provided, both_tasks, Instances_stand}
 use Rattle.qk_meaning.specs.Alike.{Reach, Hook_answers_stand, gives_value, runs_task, gives_nothing, refuses, both_hooked, Hookings_stand, both_outside, both_mounting, both_again, both_told}
@@ -89,6 +89,12 @@ module _ {t : Ties} {b : Start} where
   more_hooks k (both_mounting i h) = both_mounting i (appends h (one_more k no_more))
   more_hooks k (both_again h) = both_again h
   more_hooks k (both_told h) = both_told h
+
+  outsides : {h h' : Hooking} → Hookings_stand t b h h' → is_outside h ≡ is_outside h'
+  outsides both_outside = refl
+  outsides (both_mounting i h) = refl
+  outsides (both_again h) = refl
+  outsides (both_told h) = refl
 
   given_later : {x y : Hook} → Hooks_stand t b x y → Hook_answers_stand t (gave x) (gave y)
   given_later (both_kept h) = gives_value h
@@ -183,9 +189,11 @@ module _ {t : Ties} (apart : Apart t) {b : Start} {K : Relation} {here here' : S
   given_so_lem gives_nothing = gives undefined
   given_so_lem refuses = S.faults laws _
 
+  answer_told_lem : {r : Reach} (kind : Hook_kind) {all all' : List Value} → Pairwise (Stands t) all all' → {h h' : Hooking} → Hookings_stand t b h h' → K r _ _ (Hook_answers_stand t) (answer_told kind all h) (answer_told kind all' h')
+  answer_told_lem kind h o = bind (S.makes_apart laws apart (answer_to_lem kind h o)) (λ x y k. bind (notes (both_hooked {kind = kind} h (record { answer = k.given; made = k.made }))) (λ u u' d. gives k.given))
+
   answered_hook_lem : {r : Reach} (kind : Hook_kind) {all all' : List Value} → Pairwise (Stands t) all all' → K r _ _ (Hook_answers_stand t) (answered_hook kind all) (answered_hook kind all')
-  answered_hook_lem kind h =
-      bind hookings (λ old old' o. bind (S.makes_apart laws apart (answer_to_lem kind h o)) (λ x y k. bind (notes (both_hooked {kind = kind} h (record { answer = k.given; made = k.made }))) (λ u u' d. gives k.given)))
+  answered_hook_lem kind h = bind hookings (λ old old' o. S.choose laws (outsides o) (gives gives_nothing) (answer_told_lem kind h o))
 
   pub hook_called_lem : {r : Reach} (kind : Hook_kind) {all all' : List Value} → Pairwise (Stands t) all all' → K r _ _ (Stands t) (hook_called here kind all) (hook_called here' kind all')
   hook_called_lem kind h = bind (answered_hook_lem kind h) (λ x y k. given_so_lem k)

@@ -10,7 +10,7 @@ use Rattle.qk_meaning.specs.Alike.{Reach, both_used}
 use Rattle.qk_meaning.specs.Worlds_stand.{Start}
 use Rattle.qk_meaning.specs.Setting.{Setting}
 use Rattle.qk_meaning.specs.Making.{made, new_list, made_list, new_record, made_record, any_forbidden, root_shown, shown_of, tag_told, made_markup}
-use Rattle.qk_meaning.specs.Methods.{all_items, iterated}
+use Rattle.qk_meaning.specs.Methods.{all_items}
 use Rattle.qk_alike.specs.Code_stands as C
 use Rattle.qk_alike.proofs.Doing_laws.{Relation, Done, done, Settings_stand}
 use Rattle.qk_alike.proofs.Lists.{lengths, packs, same_names, same_counts}
@@ -24,10 +24,7 @@ module _ {t : Ties} {b : Start} {K : Relation} {here here' : Setting} (w : Setti
   made_lem h = S.choose laws (ap (λ n. nat_le n 65536) (facts.weights h)) (S.choose laws (ap (λ n. nat_le n 32) (facts.depths h)) (gives h) (S.faults laws _)) (S.faults laws _)
 
   pub all_items_lem : {r : Reach} {v v' : Value} → Stands t v v' → K r _ _ (Pairwise (Stands t)) (all_items v) (all_items v')
-  all_items_lem h = bind heaps (λ x y k. bind (reads (facts.locations k h)) (λ a b d. gives (facts.items k h)))
-
-  pub iterated_lem : {r : Reach} {v v' : Value} → Stands t v v' → K r _ _ (Pairwise (Stands t)) (iterated v) (iterated v')
-  iterated_lem h = bind heaps (λ x y k. S.choose laws (facts.lists k h) (all_items_lem h) (S.faults laws _))
+  all_items_lem h = bind heaps (λ x y k. S.choose laws (facts.lists k h) (bind (reads (facts.locations k h)) (λ a b d. gives (facts.items k h))) (S.faults laws _))
 
   new_list_lem : {r : Reach} (mode : Mode) {all all' : List Value} → Pairwise (Stands t) all all' → K r _ _ (Stands t) (new_list here mode all) (new_list here' mode all')
   new_list_lem Effect h = S.made_objects laws (array (packs h))

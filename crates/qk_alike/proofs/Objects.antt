@@ -8,6 +8,7 @@ use Rattle.qk_meaning.specs.Changes as G
 use Rattle.qk_meaning.specs.Markup as J
 use Rattle.qk_alike.proofs.Sames.{addresses, sames}
 use Rattle.qk_alike.proofs.Scopes.{found_values, there_alike}
+use Rattle.qk_alike.proofs.Heaps.{made_alike}
 use Rattle.qk_alike.proofs.Lists.{packs, lists_of, nths, appends, lengths, grown_arrays, same_counts, same_names, integers}
 use Rattle.qk_alike.proofs.Value_laws.{Facts, Keys_stand}
 use Rattle.qk_alike.proofs.Values.{weights, depths, truths, functions, texts, nullishes, joins, decided, name_keys, key_kinds, binaries, unaries, steps, truncates, marks}
@@ -17,14 +18,14 @@ use Rattle.qk_meaning.specs.Ties.{props, All_stand, Apart, Fields_stand, Found_s
 use Rattle.qk_ast.specs.Texts.{is_among, same_text, ends_in_dollar}
 use Rattle.qk_meaning.specs.Changes.{changed_in}
 use Rattle.qk_meaning.specs.Fault.{DuplicateKey, Fault, FixedWrite, IndexPastEnd, ListTooLong, NoProperty, NotCallable, NotText, RenderWrite, TypeMismatch}
-use Rattle.qk_meaning.specs.Heap.{Found, Key_kind, Member_read, Name_is, Name_of_key, Named, Neither, Not_there, Numbered, Refused_as, Runs, object_at, read_member}
+use Rattle.qk_meaning.specs.Heap.{Found, Key_kind, Member_read, Name_is, Name_of_key, Named, Neither, Not_there, Numbered, Refused_as, Runs, is_made, object_at, read_member}
 use Rattle.qk_meaning.specs.Markup.{element, markup_fault}
 use Rattle.qk_meaning.specs.Methods.{is_array, is_list, items_in, keys_in, locations_in, method_of, object_items, object_keys, object_locations, object_method}
-use Rattle.qk_meaning.specs.Operators.{Fails, Is, is_primitive}
-use Rattle.qk_meaning.specs.Parts.{field_count, found, has_field, in_listing_order, inserted, listed, packed, replaced, stands_before, value_at, with_field, without_field}
+use Rattle.qk_meaning.specs.Operators.{Answer, Fails, Is, is_primitive}
+use Rattle.qk_meaning.specs.Parts.{field_count, found, has_field, in_listing_order, inserted, listed, nth, packed, replaced, stands_before, value_at, with_field, without_field}
 use Rattle.qk_meaning.specs.Setting.{is_running}
 use Rattle.qk_meaning.specs.Texts.{is_forbidden}
-use Rattle.qk_meaning.specs.Value.{Elem, Fields, Int, Ref, Shown, Site, Slot, Text, Value, Values, end}
+use Rattle.qk_meaning.specs.Value.{Elem, Fields, Int, Ref, Shown, Site, Slot, Text, Undefined, Value, Values, end}
 use Rattle.qk_meaning.specs.World.{Array, Index, Key, Keys, Length, Loc, Object, Plain, Prop, Signal}
 use Rattle.qk_meaning.specs.Writing.{Becomes, Becoming, Stays, in_the_way}
 
@@ -34,6 +35,10 @@ child_step : (keys : List Text) (f f' : Option Fault) (k k' : Option Text) → f
     (elim f' as (λ x. Option Fault) [ Some y ↦ Some y | None ↦ elim k' as (λ x. Option Fault) [ None ↦ next' | Some z ↦ elim (is_among z keys) as (λ x. Option Fault) [ true ↦ Some DuplicateKey | false ↦ under' z ] ] ])
 child_step keys f f' k k' p q next next' under under' r s =
     λ i. elim (p i) as (λ x. Option Fault) [ Some y ↦ Some y | None ↦ elim (q i) as (λ x. Option Fault) [ None ↦ r i | Some z ↦ elim (is_among z keys) as (λ x. Option Fault) [ true ↦ Some DuplicateKey | false ↦ s z i ] ] ]
+
+-- the names of an object's keys, where one was made
+abbrev of_made : Bool → Answer (List Text × List Loc) → Answer (List Text × List Loc)
+of_made x keys = elim x as (λ z. Answer (List Text × List Loc)) [ true ↦ keys | false ↦ Fails TypeMismatch ]
 
 module _ {t : Ties} where
   -- ---- fields
@@ -100,7 +105,11 @@ module _ {t : Ties} where
       go Neither = not_there
 
   indexed_values : {all all' : List Value} → Pairwise (Stands t) all all' → (n : ℤ) → Stands t (H.at_index all n) (H.at_index all' n)
-  indexed_values h (pos n) = nths n h
+  indexed_values {all} {all'} h (pos n) = go (nat_lt n 65536)
+    where
+      go : (b : Bool) → Stands t (if b then nth all n else Undefined) (if b then nth all' n else Undefined)
+      go true = nths n h
+      go false = undefined
   indexed_values h (negsuc n) = undefined
 
   list_reads : {k l : Value} {all all' : List Value} (p p' : ℤ → List Loc) {q q' : List Loc} → Pairwise (Stands t) all all' → ((n : ℤ) → Pairwise (Loc_stands t) (p n) (p' n)) → Pairwise (Loc_stands t) q q' → Stands t k l →
@@ -136,12 +145,20 @@ module _ {t : Ties} where
   object_reads ab (signal h) k = only_reads (codes "value") (both_found h (one_place ab (Prop (codes "value")))) k
   object_reads ab (computed h) k = only_reads (codes "value") (both_run ab h) k
 
-  members : {h h' : List Object} {v w k l : Value} → Heaps_stand t h h' → Stands t v w → Stands t k l → Reads_stand t (read_member h v k) (read_member h' w l)
-  members hs (fields x) k = named_reads _ _ (λ name. both_found (field_values name x) no_more) k
-  members hs (items x) k = list_reads _ _ (lists_of x) (λ n. no_more) no_more k
-  members hs words k = only_reads (codes "length") (both_found int no_more) k
-  members hs (ref ab) k = object_reads ab (hs.there _ _ ab) k
-  members hs _ k = not_there
+  -- an object that is read, where it was made on both sides or on none
+  if_made : {x y : Bool} {r s : Member_read} → x ≡ y → Reads_stand t r s → Reads_stand t (elim x as (λ z. Member_read) [ true ↦ r | false ↦ Not_there NoProperty ]) (elim y as (λ z. Member_read) [ true ↦ s | false ↦ Not_there NoProperty ])
+  if_made {x} {y} {r} {s} e h = subst (λ b. Reads_stand t (elim x as (λ z. Member_read) [ true ↦ r | false ↦ Not_there NoProperty ]) (elim b as (λ z. Member_read) [ true ↦ s | false ↦ Not_there NoProperty ])) e (go x)
+    where
+      go : (b : Bool) → Reads_stand t (elim b as (λ z. Member_read) [ true ↦ r | false ↦ Not_there NoProperty ]) (elim b as (λ z. Member_read) [ true ↦ s | false ↦ Not_there NoProperty ])
+      go true = h
+      go false = not_there
+
+  members : (apart : Apart t) {h h' : List Object} {v w k l : Value} → Heaps_stand t h h' → Stands t v w → Stands t k l → Reads_stand t (read_member h v k) (read_member h' w l)
+  members apart hs (fields x) k = named_reads _ _ (λ name. both_found (field_values name x) no_more) k
+  members apart hs (items x) k = list_reads _ _ (lists_of x) (λ n. no_more) no_more k
+  members apart hs words k = only_reads (codes "length") (both_found int no_more) k
+  members apart {h} {h'} hs (ref {a = a} {b = b} ab) k = if_made (made_alike t apart a b hs ab) (object_reads ab (hs.there a b ab) k)
+  members apart hs _ k = not_there
 
   -- ---- whole lists
 
@@ -206,10 +223,14 @@ module _ {t : Ties} where
   object_key_lists ab (signal h) = fails
   object_key_lists ab (computed h) = fails
 
-  key_lists : {h h' : List Object} {v w : Value} → Heaps_stand t h h' → Stands t v w → Both_answer (Keys_stand t) (keys_in h v) (keys_in h' w)
-  key_lists hs (fields x) = is (record { names = same_names x; locations = no_more })
-  key_lists hs (ref ab) = object_key_lists ab (hs.there _ _ ab)
-  key_lists hs _ = fails
+  key_lists : (apart : Apart t) {h h' : List Object} {v w : Value} → Heaps_stand t h h' → Stands t v w → Both_answer (Keys_stand t) (keys_in h v) (keys_in h' w)
+  key_lists apart hs (fields x) = is (record { names = same_names x; locations = no_more })
+  key_lists apart {h} {h'} hs (ref {a = a} {b = b} ab) = subst (λ x. Both_answer (Keys_stand t) (keys_in h (Ref a)) (of_made x (object_keys b (object_at h' b)))) (made_alike t apart a b hs ab) (go (is_made h a))
+    where
+      go : (x : Bool) → Both_answer (Keys_stand t) (of_made x (object_keys a (object_at h a))) (of_made x (object_keys b (object_at h' b)))
+      go true = object_key_lists ab (hs.there a b ab)
+      go false = fails
+  key_lists apart hs _ = fails
 
   -- ---- changes
 
@@ -220,8 +241,10 @@ module _ {t : Ties} where
   states (computed h) = refl
   states (props h) = refl
 
-  ways : {h h' : List Object} {a b : ℕ} (effect : Bool) → Heaps_stand t h h' → Paired t.pairing a b → in_the_way effect h (Ref a) ≡ in_the_way effect h' (Ref b)
-  ways effect hs ab = ap (λ s. elim s as (λ x. Option Fault) [ false ↦ Some FixedWrite | true ↦ elim effect as (λ x. Option Fault) [ true ↦ None | false ↦ Some RenderWrite ] ]) (states (hs.there _ _ ab))
+  ways : (apart : Apart t) {h h' : List Object} {a b : ℕ} (effect : Bool) → Heaps_stand t h h' → Paired t.pairing a b → in_the_way effect h (Ref a) ≡ in_the_way effect h' (Ref b)
+  ways apart {h} {h'} {a} {b} effect hs ab =
+      ap₂ (λ (m : Bool) (s : Bool). elim m as (λ x. Option Fault) [ false ↦ Some NoProperty | true ↦ elim s as (λ x. Option Fault) [ false ↦ Some FixedWrite | true ↦ elim effect as (λ x. Option Fault) [ true ↦ None | false ↦ Some RenderWrite ] ] ]) (made_alike t apart a b hs ab)
+      (states (hs.there a b ab))
 
   growns : {f g : Fields} → Fields_stand t f g → Becomings_stand t (W.grown f) (W.grown g)
   growns {f} {g} h = subst (λ n. Becomings_stand t (W.grown f) (elim (nat_le n 65536) as (λ y. Becoming) [ true ↦ Becomes (Plain g) | false ↦ Stays ListTooLong ])) (same_counts h) (go (nat_le (field_count f) 65536))
@@ -428,9 +451,9 @@ all_facts t apart second second_captures = record {
   items = list_items;
   locations = list_places;
   lists = list_kinds;
-  keys = key_lists;
-  members = members;
-  ways = ways;
+  keys = key_lists apart;
+  members = members apart;
+  ways = ways apart;
   writes = λ h k v. object_writes h k v;
   deletes = λ h k. object_deletes h k;
   changes = changes t apart second second_captures;

@@ -8,9 +8,8 @@ use Rattle.qk_meaning.specs.World.{Object, Plain, Array, Signal, Computed, Step,
 use Rattle.qk_meaning.specs.Parts.{nth}
 use Rattle.qk_meaning.specs.Doing.{Outcome, Gives, Doing, ◌>>=◌, after, give, chosen}
 use Rattle.qk_meaning.specs.Happening.{Hook_kind, Signal_hook, Store_hook, Computed_hook, Task_hook, Provider_hook, Context_hook, Hook_answer, Gives_value, Gives_nothing, Refuses, Runs_task, Hooked}
-use Rattle.qk_meaning.specs.Running.{Running, Hooking, Outside, Mounting, Again, Told, made_at, made_object, hooking_becomes}
-use Rattle.qk_meaning.specs.Hooks.{thawed, thawed_items, thawed_fields, one_more, hook_made, kept_hook, words_of, context, context_found, answer_at_mount, gave, all_made, answer_to, answered_hook}
-use Rattle.qk_meaning.specs.Laws_of_code.{is_outside}
+use Rattle.qk_meaning.specs.Running.{Running, Hooking, Outside, Mounting, Again, Told, is_outside, made_at, made_object, hooking_becomes}
+use Rattle.qk_meaning.specs.Hooks.{thawed, thawed_items, thawed_fields, one_more, hook_made, kept_hook, words_of, context, context_found, answer_at_mount, gave, all_made, answer_to, answer_told, answered_hook}
 
 -- the state with these objects more, and with hook calls answered so
 abbrev pub making : Running → List Object → Hooking → Running
@@ -114,12 +113,17 @@ pub all_made_is : (all : List Object) (s : Running) → all_made all s ≡ Gives
 all_made_is [] s = ap (λ heap. Gives tt (record s { heap = heap })) (sym (append-nil s.heap))
 all_made_is (o ∷ rest) s = all_made_is rest (record s { heap = s.heap ++ (o ∷ []) }) ∙ ap (λ heap. Gives tt (record s { heap = heap })) (append_assoc s.heap (o ∷ []) rest)
 
+-- where hook calls are given nothing, a hook call changes nothing and tells nothing
+pub outside_is : (kind : Hook_kind) (arguments : List Value) (s : Running) → is_outside s.hooking ≡ true → answered_hook kind arguments s ≡ Gives Gives_nothing s
+outside_is kind arguments s o = ap (λ b. chosen b (give Gives_nothing) (answer_told kind arguments s.hooking) s) o
+
 -- an answered hook call is told with its answer and the objects that were made
 pub answered_is : (kind : Hook_kind) (arguments : List Value) (s : Running) (answer : Hook_answer) (made : List Object) (h : Hooking)
-    → answer_to kind arguments s.hooking s ≡ Gives answer (making s made h)
+    → is_outside s.hooking ≡ false → answer_to kind arguments s.hooking s ≡ Gives answer (making s made h)
     → answered_hook kind arguments s ≡ Gives answer (record s { heap = s.heap ++ made; hooking = h; trace = s.trace ++ (Hooked kind arguments (record { answer = answer; made = made }) ∷ []) })
-answered_is kind arguments s answer made h e =
-    ap (λ o. after (after o apart) told) e ∙ ap (λ all. after (Gives (answer, all) (making s made h)) told) (drop-append_seam s.heap made)
+answered_is kind arguments s answer made h o e =
+    ap (λ b. chosen b (give Gives_nothing) (answer_told kind arguments s.hooking) s) o
+    ∙ (ap (λ o. after (after o apart) told) e ∙ ap (λ all. after (Gives (answer, all) (making s made h)) told) (drop-append_seam s.heap made))
   where
     apart : Hook_answer → Doing Running (Hook_answer × List Object)
     apart a u = Gives (a, drop (length s.heap) u.heap) u

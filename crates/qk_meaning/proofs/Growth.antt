@@ -26,21 +26,12 @@ use Rattle.qk_meaning.specs.Laws as Laws
 use Rattle.qk_meaning.specs.Laws.{The_render, The_event}
 use Rattle.qk_meaning.specs.Laws_of_code as Of_code
 use Rattle.qk_meaning.specs.Laws_of_code.{Adds}
+use Rattle.qk_meaning.proofs.Traces.{logged_then, printed_then}
 use Rattle.qk_meaning.proofs.Running_laws.{Relation, Laws, Trace_laws, finds_reads, finds_tracked, Hooking_laws, hook_laws, all_tell_only, Kind_kept}
 use Rattle.qk_meaning.proofs.Meanings.{Enter_alike, enters_with, calls_anew}
 use Rattle.qk_meaning.proofs.Session_laws.{Session_relation, Session_laws, visits, first_renders, events}
 
--- ---- what two traces tell one after another
-
-logged_then : (one other : List Happening) → logged_in (one ++ other) ≡ logged_in one ++ logged_in other
-logged_then [] other = refl
-logged_then (Did_log l ∷ rest) other = ap (λ all. l ∷ all) (logged_then rest other)
-logged_then (_ ∷ rest) other = logged_then rest other
-
-printed_then : (one other : List Happening) → printed_in (one ++ other) ≡ printed_in one ++ printed_in other
-printed_then [] other = refl
-printed_then (Did_print line ∷ rest) other = ap (λ all. line ∷ all) (printed_then rest other)
-printed_then (_ ∷ rest) other = printed_then rest other
+-- ---- what a trace tells
 
 logs_logged : (all : List Loc) → logged_in (logs_told all) ≡ all
 logs_logged [] = refl

@@ -9,7 +9,7 @@ use Rattle.qk_meaning.specs.Operators.{is_true}
 use Rattle.qk_meaning.specs.Program.{Program}
 use Rattle.qk_meaning.specs.Doing.{Outcome, Gives, Stops, Doing, ◌>>=◌, give, chosen, state_left}
 use Rattle.qk_meaning.specs.Happening.{Answered, Happening}
-use Rattle.qk_meaning.specs.Running.{Running, Mode, Hooking, Outside, Told}
+use Rattle.qk_meaning.specs.Running.{Running, Mode, Hooking, Told, is_outside}
 use Rattle.qk_meaning.specs.Trace.{logged_in, printed_in, answers_in}
 use Rattle.qk_meaning.specs.Setting.{Setting, called_anew}
 use Rattle.qk_meaning.specs.References.{valued}
@@ -48,10 +48,6 @@ WhileUnfolds =
     ≡ ◌>>=◌ (valued here (refer condition here)) (λ v. chosen (is_true v) (one_turn (scoped (declared_in body) (all_ran body here)) (ran (Stmt.While' condition span body) here)) (give Onward)) s
 
 -- ---- hook calls
-
-abbrev pub is_outside : Hooking → Bool
-is_outside Outside = true
-is_outside _ = false
 
 -- the second outcome is the first, but that whoever calls answers hook calls, and has these answers still to give
 abbrev pub Replays : {A : Type 0} → List Answered → Outcome Running A → Outcome Running A → Type 0

@@ -8,13 +8,14 @@ use Rattle.qk_meaning.specs.Heap.{object_at}
 use Rattle.qk_meaning.specs.Program.{Program}
 use Rattle.qk_meaning.specs.Fault.{ComputedCycle}
 use Rattle.qk_meaning.specs.Doing.{chosen, fault, Doing, Outcome, Gives, Stops, ◌>>=◌, ◌>>◌, after, give}
-use Rattle.qk_meaning.specs.Happening.{Happening, Did_read, Entered, Used, Computing, Computed_so, Took, Began, Left, Hook_kind, Hook_answer}
-use Rattle.qk_meaning.specs.Running.{Running, Mode, Kept_run, take_turn, turn_of, noted, reads_at, locations_read, locals_become}
+use Rattle.qk_meaning.specs.Happening.{Happening, Did_read, Entered, Used, Computing, Computed_so, Took, Began, Left, Hook_kind, Hook_answer, Gives_nothing}
+use Rattle.qk_meaning.specs.Running.{Running, Mode, Kept_run, is_outside, take_turn, turn_of, noted, reads_at, locations_read, locals_become}
 use Rattle.qk_meaning.specs.Hooks.{answered_hook}
 use Rattle.qk_meaning.specs.Setting.{Entering, Computed_reading, called_anew, is_running}
 use Rattle.qk_meaning.specs.Evaluation.{entering}
 use Rattle.qk_meaning.specs.Flow.{within}
 use Rattle.qk_needed.specs.Needed.{kept_of, read_now, run_kept, taken_or_called, called_if_needed}
+use Rattle.qk_meaning.proofs.Answering.{outside_is}
 use Rattle.qk_needed.proofs.Found.{found_in}
 use Rattle.qk_needed.proofs.Repeating.{behind_hook, told_hook, answer_so, runs_none, left_none, answered_so}
 use Rattle.qk_needed.specs.Deciding.{One_kind, two_plain, two_arrays, two_signals, one_computed, two_props, Makes_none, Writes_nothing}
@@ -49,7 +50,7 @@ reads_told n m (l ∷ rest) e = (e, reads_told n m rest e)
 
 one_kind : (o : Object) → One_kind o o
 one_kind (Plain f) = two_plain
-one_kind (Array v) = two_arrays (λ n h. refl)
+one_kind (Array v) = two_arrays
 one_kind (Signal v) = two_signals
 one_kind (Computed f) = one_computed
 one_kind (Props f) = two_props
@@ -111,18 +112,26 @@ module _ (G : List Object) (log0 : List Loc) where
   computing : {A : Type 0} (m : Doing Running A) (a : ℕ) → ((s : Running) → At_rest s → Left_at_rest s (m s)) → (s : Running) → At_rest s → Left_at_rest s (◌>>◌ (noted (Computing a)) m s)
   computing m a p = binds (noted (Computing a)) (λ u. m) (noting (Computing a) tt) (λ u. p)
 
-  answering : {B : Type 0} (kind : Hook_kind) (arguments : List Value) (f : Hook_answer → Doing Running B) → ((a : Hook_answer) → Runs_none a → (s : Running) → At_rest s → Left_at_rest s (f a s))
-      → (s : Running) → At_rest s → Left_at_rest s (◌>>=◌ (answered_hook kind arguments) f s)
-  answering {B} kind arguments f p s i =
-      subst (λ o. Left_at_rest s (after o f)) (sym (answered_so [] G G log0 kind arguments s.hooking i.no_hooks s refl))
+  given_so : {B : Type 0} (kind : Hook_kind) (arguments : List Value) (f : Hook_answer → Doing Running B) → ((a : Hook_answer) → Runs_none a → (s : Running) → At_rest s → Left_at_rest s (f a s))
+      → (s : Running) → At_rest s → is_outside s.hooking ≡ false → Left_at_rest s (◌>>=◌ (answered_hook kind arguments) f s)
+  given_so {B} kind arguments f p s i o =
+      subst (λ x. Left_at_rest s (after x f)) (sym (answered_so [] G G log0 kind arguments s.hooking i.no_hooks o s refl))
       (go (f (answer_so [] G G log0 s.hooking) s1) (p (answer_so [] G G log0 s.hooking) (runs_none [] G G log0 s.hooking) s1 (record { heap = append-nil s.heap ∙ i.heap; log = i.log; no_hooks = left_none [] G G log0 s.hooking i.no_hooks })))
     where
       s1 : Running
       s1 = behind_hook [] G G log0 kind arguments s.hooking s
 
-      go : (o : Outcome Running B) → Left_at_rest (behind_hook [] G G log0 kind arguments s.hooking s) o → Left_at_rest s o
+      go : (x : Outcome Running B) → Left_at_rest (behind_hook [] G G log0 kind arguments s.hooking s) x → Left_at_rest s x
       go (Stops why u) g = tt
       go (Gives b u) g = record { rest = g.rest; news = told_hook [] G G log0 kind arguments s.hooking ∷ g.news; told = g.told ∙ append_assoc s.trace (told_hook [] G G log0 kind arguments s.hooking ∷ []) g.news; at = g.at }
+
+  answering : {B : Type 0} (kind : Hook_kind) (arguments : List Value) (f : Hook_answer → Doing Running B) → ((a : Hook_answer) → Runs_none a → (s : Running) → At_rest s → Left_at_rest s (f a s))
+      → (s : Running) → At_rest s → Left_at_rest s (◌>>=◌ (answered_hook kind arguments) f s)
+  answering {B} kind arguments f p s i = by_outside (is_outside s.hooking) refl
+    where
+      by_outside : (b : Bool) → is_outside s.hooking ≡ b → Left_at_rest s (◌>>=◌ (answered_hook kind arguments) f s)
+      by_outside true o = subst (λ x. Left_at_rest s (after x f)) (sym (outside_is kind arguments s o)) (p Gives_nothing tt s i)
+      by_outside false o = given_so kind arguments f p s i o
 
   pub laws : Laws [] G G Quiet
   laws =
@@ -190,5 +199,5 @@ module _ (G : List Object) (log0 : List Loc) where
   pub calls : (computed : Computed_reading) → Reads_quietly computed → (program : Program) (d : ℕ) → Calls_quietly (entering program computed d)
   calls computed C program zero mode q running f arguments = λ s i. tt
   calls computed C program (suc d) mode q running f arguments =
-      Code.enters_with [] G G Quiet laws (λ a. one_kind (object_at G a)) program computed computed (entering program computed d) (entering program computed d)
+      Code.enters_with [] G G Quiet laws (λ a m. (m, one_kind (object_at G a))) program computed computed (entering program computed d) (entering program computed d)
       (λ r r' under a g. C (entering program computed d) (calls computed C program d) r a g) (λ m p r r' under. calls computed C program d m p r) mode q running running (λ b p o. p) f arguments

@@ -2,7 +2,7 @@
 use Rattle.std.specs.Prelude.{◌≡◌, refl, ℕ, zero, suc, Bool, true, false, List, [], ◌∷◌, ◌++◌, length, ⊤}
 use Rattle.std.proofs.Common.{sym, ap, subst, ◌∙◌}
 use Rattle.std.proofs.lemmas.List.{append_assoc, append-nil, append_cancel_left}
-use Rattle.std.proofs.lemmas.Bool.{true≢false}
+use Rattle.std.proofs.lemmas.Bool.{true≢false, false≢true}
 use Rattle.qk_meaning.specs.Fault.{ComputedCycle}
 use Rattle.qk_meaning.specs.Setting.{is_running}
 use Rattle.qk_meaning.specs.Doing.{chosen, fault, Doing, Outcome, Gives, Stops, Faults, Ends, ◌>>=◌, ◌>>◌, after, give, asked, ended}
@@ -10,8 +10,8 @@ use Rattle.qk_meaning.specs.Value.{Value, Fields}
 use Rattle.qk_meaning.specs.World.{Object, Loc, Hook}
 use Rattle.qk_meaning.specs.Happening.{Happening, Did_read, Entered, Used, Computing, Computed_so, Began, Left, Hooked, Hook_kind, Hook_answer, Gives_nothing}
 use Rattle.qk_meaning.specs.Hooks.{gave, answer_to, answered_hook}
-use Rattle.qk_meaning.proofs.Answering.{making, answered_is}
-use Rattle.qk_meaning.specs.Running.{Running, Outside, Mounting, Again, Told, Hooking, take_turn, turn_of, noted, reads_at, locations_read, locals_become, hooking_becomes, heap_of}
+use Rattle.qk_meaning.proofs.Answering.{making, outside_is, answered_is}
+use Rattle.qk_meaning.specs.Running.{Running, Outside, Mounting, Again, Told, Hooking, is_outside, take_turn, turn_of, noted, reads_at, locations_read, locals_become, hooking_becomes, heap_of}
 use Rattle.qk_meaning.specs.Flow.{within}
 use Rattle.qk_needed.specs.Deciding.{Agree_on, Same_news, no_news, both_read, both_enter, both_use, both_begin_computed, both_end_computed, both_call_hook, both_begin, both_leave, Makes_none}
 use Rattle.qk_needed.proofs.Repeating_laws.{Names, Shared, Own, Relation, All_agree, Laws, Runs_none}
@@ -392,20 +392,36 @@ module _ (outer : List ℕ) (G H : List Object) (log' : List Loc) where
     abbrev pub behind_hook : Hooking → Running → Running
     behind_hook h s = record s { heap = s.heap ++ []; hooking = left_so h; trace = s.trace ++ told_hook h ∷ [] }
 
-    answers_so : (h : Hooking) → Makes_none h → (s : Running) → s.hooking ≡ h → answer_to kind arguments h s ≡ Gives (answer_so h) (making s [] (left_so h))
-    answers_so Outside q s e = ap (λ x. Gives Gives_nothing (record s { hooking = x })) e ∙ ap (λ heap. Gives Gives_nothing (record s { heap = heap; hooking = Outside })) (append_none_of s.heap)
-    answers_so (Mounting path before so_far) q s e = absurd q
-    answers_so (Again []) q s e = ap (λ x. Gives Gives_nothing (record s { hooking = x })) e ∙ ap (λ heap. Gives Gives_nothing (record s { heap = heap; hooking = Again [] })) (append_none_of s.heap)
-    answers_so (Again (hook ∷ rest)) q s e = ap (λ heap. Gives (gave hook) (record s { heap = heap; hooking = Again rest })) (append_none_of s.heap)
-    answers_so (Told answers) q s e = absurd q
+    answers_so : (h : Hooking) → Makes_none h → is_outside h ≡ false → (s : Running) → s.hooking ≡ h → answer_to kind arguments h s ≡ Gives (answer_so h) (making s [] (left_so h))
+    answers_so Outside q o s e = absurd (false≢true (sym o))
+    answers_so (Mounting path before so_far) q o s e = absurd q
+    answers_so (Again []) q o s e = ap (λ x. Gives Gives_nothing (record s { hooking = x })) e ∙ ap (λ heap. Gives Gives_nothing (record s { heap = heap; hooking = Again [] })) (append_none_of s.heap)
+    answers_so (Again (hook ∷ rest)) q o s e = ap (λ heap. Gives (gave hook) (record s { heap = heap; hooking = Again rest })) (append_none_of s.heap)
+    answers_so (Told answers) q o s e = absurd q
 
-    pub answered_so : (h : Hooking) → Makes_none h → (s : Running) → s.hooking ≡ h → answered_hook kind arguments s ≡ Gives (answer_so h) (behind_hook h s)
-    answered_so h q s e = answered_is kind arguments s (answer_so h) [] (left_so h) (ap (λ x. answer_to kind arguments x s) e ∙ answers_so h q s e)
+    pub answered_so : (h : Hooking) → Makes_none h → is_outside h ≡ false → (s : Running) → s.hooking ≡ h → answered_hook kind arguments s ≡ Gives (answer_so h) (behind_hook h s)
+    answered_so h q o s e = answered_is kind arguments s (answer_so h) [] (left_so h) (ap is_outside e ∙ o) (ap (λ x. answer_to kind arguments x s) e ∙ answers_so h q o s e)
 
-    answering : (L : Names) {B : Type 0} (f f' : Hook_answer → Doing Running B) → ((answer : Hook_answer) → Runs_none answer → Repeated L B (f answer) (f' answer))
-        → Repeated L B (◌>>=◌ (answered_hook kind arguments) f) (◌>>=◌ (answered_hook kind arguments) f')
-    answering L {B} f f' p s i =
-        subst (λ o. Gone L s (after o f) (◌>>=◌ (answered_hook kind arguments) f')) (sym (answered_so s.hooking i.no_hooks s refl))
+    -- where hook calls are given nothing
+    given_nothing : (L : Names) {B : Type 0} (f f' : Hook_answer → Doing Running B) → ((answer : Hook_answer) → Runs_none answer → Repeated L B (f answer) (f' answer))
+        → (s : Running) → First s → is_outside s.hooking ≡ true → Gone L s (◌>>=◌ (answered_hook kind arguments) f s) (◌>>=◌ (answered_hook kind arguments) f')
+    given_nothing L {B} f f' p s i o = subst (λ x. Gone L s (after x f) (◌>>=◌ (answered_hook kind arguments) f')) (sym (outside_is kind arguments s o)) (go (f Gives_nothing s) (p Gives_nothing tt s i))
+      where
+        go : (x : Outcome Running B) → Gone L s x (f' Gives_nothing) → Gone L s x (◌>>=◌ (answered_hook kind arguments) f')
+        go (Stops why u) g = tt
+        go (Gives b s1) g =
+            record {
+              news = g.news;
+              told = g.told;
+              first = g.first;
+              again = λ t r n agree. subst (λ x. Again_or_ends L s t b s1 g.news (after x f')) (sym (outside_is kind arguments t (ap is_outside r.hooking ∙ o))) (g.again t r n agree);
+            }
+
+    -- where they are answered
+    given_so : (L : Names) {B : Type 0} (f f' : Hook_answer → Doing Running B) → ((answer : Hook_answer) → Runs_none answer → Repeated L B (f answer) (f' answer))
+        → (s : Running) → First s → is_outside s.hooking ≡ false → Gone L s (◌>>=◌ (answered_hook kind arguments) f s) (◌>>=◌ (answered_hook kind arguments) f')
+    given_so L {B} f f' p s i o =
+        subst (λ x. Gone L s (after x f) (◌>>=◌ (answered_hook kind arguments) f')) (sym (answered_so s.hooking i.no_hooks o s refl))
         (go (f (answer_so s.hooking) (behind_hook s.hooking s)) (p (answer_so s.hooking) (runs_none s.hooking) (behind_hook s.hooking s) (record { heap = append-nil s.heap ∙ i.heap; no_hooks = left_none s.hooking i.no_hooks })))
       where
         behind : (l : Names) (s1 t t1 : Running) → Behind l (behind_hook s.hooking s) s1 (behind_hook s.hooking t) t1 → Behind l s s1 t t1
@@ -416,7 +432,7 @@ module _ (outer : List ℕ) (G H : List Object) (log' : List Loc) where
         before Shared t n = n
         before Own t n = tt
 
-        go : (o : Outcome Running B) → Gone L (behind_hook s.hooking s) o (f' (answer_so s.hooking)) → Gone L s o (◌>>=◌ (answered_hook kind arguments) f')
+        go : (x : Outcome Running B) → Gone L (behind_hook s.hooking s) x (f' (answer_so s.hooking)) → Gone L s x (◌>>=◌ (answered_hook kind arguments) f')
         go (Stops why u) g = tt
         go (Gives b s1) g =
             record {
@@ -424,7 +440,7 @@ module _ (outer : List ℕ) (G H : List Object) (log' : List Loc) where
               told = g.told ∙ append_assoc s.trace (told_hook s.hooking ∷ []) g.news;
               first = g.first;
               again = λ t r n agree.
-                  subst (λ o. Again_or_ends L s t b s1 (told_hook s.hooking ∷ g.news) (after o f')) (sym (answered_so s.hooking i.no_hooks t r.hooking))
+                  subst (λ x. Again_or_ends L s t b s1 (told_hook s.hooking ∷ g.news) (after x f')) (sym (answered_so s.hooking i.no_hooks o t r.hooking))
                   (second t (f' (answer_so s.hooking) (behind_hook s.hooking t))
                   (g.again (behind_hook s.hooking t) (record { heap = append-nil t.heap ∙ r.heap; log = r.log; hooking = refl }) (before L t n) agree));
             }
@@ -434,6 +450,14 @@ module _ (outer : List ℕ) (G H : List Object) (log' : List Loc) where
             second t (Stops Ends u) x = tt
             second t (Gives w t1) x =
                 record { value = x.value; second = x.second; names = behind L s1 t t1 x.names; more = told_hook s.hooking ∷ x.more; told = x.told ∙ append_assoc t.trace (told_hook s.hooking ∷ []) x.more; alike = both_call_hook x.alike }
+
+    answering : (L : Names) {B : Type 0} (f f' : Hook_answer → Doing Running B) → ((answer : Hook_answer) → Runs_none answer → Repeated L B (f answer) (f' answer))
+        → Repeated L B (◌>>=◌ (answered_hook kind arguments) f) (◌>>=◌ (answered_hook kind arguments) f')
+    answering L {B} f f' p s i = by_outside (is_outside s.hooking) refl
+      where
+        by_outside : (b : Bool) → is_outside s.hooking ≡ b → Gone L s (◌>>=◌ (answered_hook kind arguments) f s) (◌>>=◌ (answered_hook kind arguments) f')
+        by_outside true o = given_nothing L f f' p s i o
+        by_outside false o = given_so L f f' p s i o
 
   pub laws : Laws outer G H Repeated
   laws =

@@ -1,5 +1,5 @@
 -- A doing and its repetition in another heap, for every form of code in a mode in which nothing is written.
-use Rattle.std.specs.Prelude.{◌≡◌, refl, ◌==◌, ◌||◌, ◌≤◌, ℕ, suc, ◌+◌, ℤ, pos, negsuc, nat_lt, codes, if◌then◌else◌, Bool, true, false, List, [], ◌∷◌, length, drop, Option, Some, None}
+use Rattle.std.specs.Prelude.{◌≡◌, refl, ◌==◌, ◌||◌, ◌≤◌, ℕ, zero, suc, ◌+◌, ℤ, pos, negsuc, nat_lt, codes, if◌then◌else◌, Bool, true, false, List, [], ◌∷◌, length, drop, Option, Some, None}
 use Rattle.std.proofs.Common.{sym, ap, ap₂, subst, ◌∙◌, arith}
 use Rattle.qk_ast.specs.declared.Pattern.{Pattern}
 use Rattle.qk_ast.specs.declared.Tag.{Tag}
@@ -14,11 +14,11 @@ use Rattle.qk_meaning.specs.Value.{Text, Value, Values, Fields, Undefined, Null,
 use Rattle.qk_meaning.specs.World.{Object, Plain, Array, Signal, Props, Loc, Key, Prop, Keys, Length, Index}
 use Rattle.qk_meaning.specs.Fault.{ComputedCycle, NoProperty, TypeMismatch, FixedWrite, RenderWrite, RenderLog}
 use Rattle.qk_meaning.specs.Texts.{joined}
-use Rattle.qk_meaning.specs.Operators.{is_true, text_of, short_text, binary, unary, stepped, decides}
+use Rattle.qk_meaning.specs.Operators.{Answer, Fails, is_true, text_of, short_text, binary, unary, stepped, decides}
 use Rattle.qk_meaning.specs.Parts.{packed, listed, zipped, nth, replaced, value_at, names_of}
 use Rattle.qk_ast.specs.Names.{declared_in}
 use Rattle.qk_ast.specs.Texts.{same_text}
-use Rattle.qk_meaning.specs.Heap.{object_at, Member_read, Found, Runs, Not_there, read_member, read_object, at_name, only, at_index, index_location, Name_of_key, Name_is, Refused_as, name_of_key, Key_kind, Named, Numbered, Neither, key_kind, indexes_from, whole_array}
+use Rattle.qk_meaning.specs.Heap.{is_made, object_at, Member_read, Found, Runs, Not_there, read_member, read_object, at_name, only, at_index, index_location, Name_of_key, Name_is, Refused_as, name_of_key, Key_kind, Named, Numbered, Neither, key_kind, indexes_from, whole_array}
 use Rattle.qk_meaning.specs.Writing.{in_the_way, is_state, address_of, written, deleted, cut_place, between}
 use Rattle.qk_meaning.specs.Markup.{markup_fault, element}
 use Rattle.qk_meaning.specs.Program.{Code, Root, Framework, Holds, Shows, Unknown, Program}
@@ -28,13 +28,13 @@ use Rattle.qk_meaning.specs.Running.{Running, Mode, Effect, Pure, Track, Outside
 use Rattle.qk_meaning.specs.Setting.{Entering, Computed_reading, called_anew, Setting, setting_of, is_effect, is_running}
 use Rattle.qk_meaning.specs.Making.{made, new_list, made_list, new_record, made_record, made_function, shown_of, tag_told, made_markup, filled}
 use Rattle.qk_meaning.specs.References.{Reference, Of, Member, Local, Tracker, Framework_name, use_told, outer_named, named, computed_value, member_value, read, value_of, valued, changed, stored, removed, old_value, combined, fields_bound, bound, all_bound}
-use Rattle.qk_meaning.specs.Methods.{Method, Map, Filter, Slice, Join, Push, Pop, Splice, Includes, Starts_with, object_items, items_in, object_locations, locations_in, all_items, is_array, is_list, iterated, called_on_each, sliced, joined_text, items_joined, if_function, kept, changing, method_called, object_method, method_of, object_keys, keys_in, as_values, keys_listed}
+use Rattle.qk_meaning.specs.Methods.{Method, Map, Filter, Slice, Join, Push, Pop, Splice, Includes, Starts_with, object_items, items_in, object_locations, locations_in, items_taken, all_items, is_array, is_list, called_on_each, sliced, joined_text, items_joined, if_function, kept, changing, method_called, object_method, method_of, object_keys, keys_in, as_values, keys_listed}
 use Rattle.qk_meaning.specs.Hooks.{given_so, hook_called}
 use Rattle.qk_meaning.specs.Calls.{Callee, A_value, A_method, The_tracker, The_dollar, The_mark, A_hook, member_callee, callee, is_qrl, tracked, call, known_called}
 use Rattle.qk_meaning.specs.Flow.{Flow, Onward, Broke, Continued, Returned, opened, flow_value}
 use Rattle.qk_meaning.specs.Evaluation.{refer, followed, lifted_value, values, hole_texts, field_values, chained, markup, ran, all_ran, body_value, own_names, scope_of, parameters_bound, inside, entered, entered_with}
 use Rattle.qk_needed.specs.Deciding.{Standing, A_value as Stands, Some_names, A_length, at_key, stands_at, One_kind, two_plain, two_arrays, two_signals, one_computed, two_props, Kinds_agree, Writes_nothing}
-use Rattle.std.proofs.lemmas.Bool.{ltb-false, true≢false}
+use Rattle.std.proofs.lemmas.Bool.{ltb-false, true≢false, false≢true}
 use Rattle.qk_needed.proofs.Repeating_laws as L
 use Rattle.qk_needed.proofs.Repeating_laws.{Names, Shared, Own, Relation, All_agree, Under, Laws}
 
@@ -60,6 +60,15 @@ no_effect Track q = refl
 
 abbrev pub Same_there : Object → Object → Key → Type 0
 Same_there o o' k = at_key o k ≡ at_key o' k
+
+-- where nothing was made stands an empty plain object
+unmade_from : (heap : List Object) (a : ℕ) → length heap ≤ a → object_at heap a ≡ Plain end
+unmade_from [] a h = refl
+unmade_from (o ∷ heap) zero h = absurd (omega (arith, h))
+unmade_from (o ∷ heap) (suc a) h = unmade_from heap a (omega (arith, h))
+
+unmade : (heap : List Object) (a : ℕ) → is_made heap a ≡ false → object_at heap a ≡ Plain end
+unmade heap a e = unmade_from heap a (ltb-false a (length heap) e)
 
 module _ (a : ℕ) (G H : List Object) (o o' : Object) (e : object_at G a ≡ o) (e' : object_at H a ≡ o') where
   -- what stands the same at a location of this object
@@ -148,22 +157,20 @@ module _ (outer : List ℕ) (G H : List Object) (K : Relation) (laws : Laws oute
       by_name (Name_is t) = one_read a (Prop t) (value_at t f) (value_at t g) (p t)
       by_name (Refused_as x) = faults _ _
 
-  index_read : (a : ℕ) (v w : Values) → ((n : ℕ) → 65536 ≤ n → nth (listed w) n ≡ nth (listed v) n) → object_at G a ≡ Array v → object_at H a ≡ Array w → (n : ℤ)
+  index_read : (a : ℕ) (v w : Values) → object_at G a ≡ Array v → object_at H a ≡ Array w → (n : ℤ)
       → K Shared Value (member_value here (Found (at_index (listed v) n) (index_location a n))) (member_value there (Found (at_index (listed w) n) (index_location a n)))
-  index_read a v w l e e' (negsuc n) = no_reads Undefined
-  index_read a v w l e e' (pos n) = by_size (nat_lt n 65536) refl
+  index_read a v w e e' (negsuc n) = no_reads Undefined
+  index_read a v w e e' (pos n) = by_size (nat_lt n 65536)
     where
-      by_size : (b : Bool) → nat_lt n 65536 ≡ b
-          → K Shared Value (member_value here (Found (nth (listed v) n) (if b then record { address = a; key = Index n } ∷ [] else [])))
-          (member_value there (Found (nth (listed w) n) (if b then record { address = a; key = Index n } ∷ [] else [])))
-      by_size true h = one_read a (Index n) (nth (listed v) n) (nth (listed w) n) (λ s. sym (ap (standing_value Undefined) (there_at a G H (Array v) (Array w) e e' (Index n) s)))
-      by_size false h =
-          let past : 65536 ≤ n = ltb-false n 65536 h in
-          reads [] [] (nth (listed v) n) (nth (listed w) n) (λ s. (refl, l n past))
+      by_size : (b : Bool)
+          → K Shared Value (member_value here (Found (if b then nth (listed v) n else Undefined) (if b then record { address = a; key = Index n } ∷ [] else [])))
+          (member_value there (Found (if b then nth (listed w) n else Undefined) (if b then record { address = a; key = Index n } ∷ [] else [])))
+      by_size true = one_read a (Index n) (nth (listed v) n) (nth (listed w) n) (λ s. sym (ap (standing_value Undefined) (there_at a G H (Array v) (Array w) e e' (Index n) s)))
+      by_size false = no_reads Undefined
 
-  array_read : (a : ℕ) (v w : Values) → ((n : ℕ) → 65536 ≤ n → nth (listed w) n ≡ nth (listed v) n) → object_at G a ≡ Array v → object_at H a ≡ Array w → (key : Value)
+  array_read : (a : ℕ) (v w : Values) → object_at G a ≡ Array v → object_at H a ≡ Array w → (key : Value)
       → K Shared Value (member_value here (read_object a (Array v) key)) (member_value there (read_object a (Array w) key))
-  array_read a v w l e e' key = by_kind (key_kind key)
+  array_read a v w e e' key = by_kind (key_kind key)
     where
       by_name : (b : Bool)
           → K Shared Value (member_value here (elim b [ true ↦ Found (Int (pos (length (listed v)))) (record { address = a; key = Length } ∷ []) | false ↦ Not_there NoProperty ]))
@@ -182,14 +189,14 @@ module _ (outer : List ℕ) (G H : List Object) (K : Relation) (laws : Laws oute
             | Neither ↦ Not_there TypeMismatch
           ]))
       by_kind (Named t) = by_name (same_text t (codes "length"))
-      by_kind (Numbered n) = index_read a v w l e e' n
+      by_kind (Numbered n) = index_read a v w e e' n
       by_kind Neither = faults _ _
 
   object_read : (a : ℕ) (key : Value) (o o' : Object) → object_at G a ≡ o → object_at H a ≡ o' → One_kind o o'
       → K Shared Value (member_value here (read_object a o key)) (member_value there (read_object a o' key))
   object_read a key _ _ e e' (two_plain {f} {g}) = fields_read a f g (λ t s. sym (ap (standing_value Undefined) (there_at a G H (Plain f) (Plain g) e e' (Prop t) s))) key
   object_read a key _ _ e e' (two_props {f} {g}) = fields_read a f g (λ t s. sym (ap (standing_value Undefined) (there_at a G H (Props f) (Props g) e e' (Prop t) s))) key
-  object_read a key _ _ e e' (two_arrays {v} {w} l) = array_read a v w l e e' key
+  object_read a key _ _ e e' (two_arrays {v} {w}) = array_read a v w e e' key
   object_read a key _ _ e e' (two_signals {v} {w}) =
       only_read (codes "value") _ _ (one_read a (Prop (codes "value")) v w (λ s. sym (ap (standing_value Undefined) (there_at a G H (Signal v) (Signal w) e e' (Prop (codes "value")) s)))) key
   object_read a key _ _ e e' (one_computed {f}) = only_read (codes "value") (Runs a f) (Runs a f) (shared (C a f)) key
@@ -199,8 +206,16 @@ module _ (outer : List ℕ) (G H : List Object) (K : Relation) (laws : Laws oute
   same_read (Runs a f) = shared (C a f)
   same_read (Not_there f) = faults _ _
 
+  -- what is read at an address; where nothing was made in the first nothing is read there
+  made_read : (a : ℕ) (key : Value) (b : Bool) → is_made G a ≡ b
+      → K Shared Value (member_value here (elim b [ true ↦ read_object a (object_at G a) key | false ↦ Not_there NoProperty ])) (member_value there (read_member H (Ref a) key))
+  made_read a key true m =
+      subst (λ c. K Shared Value (member_value here (read_object a (object_at G a) key)) (member_value there (elim c as (λ x. Member_read) [ true ↦ read_object a (object_at H a) key | false ↦ Not_there NoProperty ]))) (sym (kinds a m).0)
+      (object_read a key (object_at G a) (object_at H a) refl refl (kinds a m).1)
+  made_read a key false m = faults _ _
+
   member_read : (object key : Value) → K Shared Value (member_value here (read_member G object key)) (member_value there (read_member H object key))
-  member_read (Ref a) key = object_read a key (object_at G a) (object_at H a) refl refl (kinds a)
+  member_read (Ref a) key = made_read a key (is_made G a) refl
   member_read (Record fields) key = same_read (read_member G (Record fields) key)
   member_read (Items all) key = same_read (read_member G (Items all) key)
   member_read (Words t) key = same_read (read_member G (Words t) key)
@@ -217,9 +232,17 @@ module _ (outer : List ℕ) (G H : List Object) (K : Relation) (laws : Laws oute
 
   -- ---- items and keys
 
+  -- an array was made
+  array_made : (a : ℕ) → is_array (object_at G a) ≡ true → is_made G a ≡ true
+  array_made a q = go (is_made G a) refl
+    where
+      go : (b : Bool) → is_made G a ≡ b → b ≡ true
+      go true m = refl
+      go false m = absurd (false≢true (sym (ap is_array (unmade G a m)) ∙ q))
+
   -- what is read of the items of a list or array
-  items_read : (v : Value) → All_agree G H (locations_in G v) → (locations_in H v ≡ locations_in G v) × (items_in H v ≡ items_in G v)
-  items_read (Ref a) h = by_objects (object_at G a) (object_at H a) refl refl (kinds a) h
+  items_read : (v : Value) → is_list G v ≡ true → All_agree G H (locations_in G v) → (locations_in H v ≡ locations_in G v) × (items_in H v ≡ items_in G v)
+  items_read (Ref a) q h = by_objects (object_at G a) (object_at H a) refl refl (kinds a (array_made a q)).1 h
     where
       by_objects : (o o' : Object) → object_at G a ≡ o → object_at H a ≡ o' → One_kind o o' → All_agree G H (object_locations a o)
           → (object_locations a o' ≡ object_locations a o) × (object_items o' ≡ object_items o)
@@ -227,100 +250,96 @@ module _ (outer : List ℕ) (G H : List Object) (K : Relation) (laws : Laws oute
       by_objects _ _ e e' two_props h = (refl, refl)
       by_objects _ _ e e' two_signals h = (refl, refl)
       by_objects _ _ e e' one_computed h = (refl, refl)
-      by_objects _ _ e e' (two_arrays {v} {w} l) h =
+      by_objects _ _ e e' (two_arrays {v} {w}) h =
           let same : listed w ≡ listed v = sym (same_whole a G H v w e e' h) in
           (ap (λ all. whole_array a all) same, same)
-  items_read (Items all) h = (refl, refl)
-  items_read Undefined h = (refl, refl)
-  items_read Null h = (refl, refl)
-  items_read (Truth b) h = (refl, refl)
-  items_read (Int n) h = (refl, refl)
-  items_read (Words t) h = (refl, refl)
-  items_read (Record fields) h = (refl, refl)
-  items_read (Elem shown k slot attributes children) h = (refl, refl)
-  items_read (Closure site scope hidden) h = (refl, refl)
-  items_read (Lifted symbol captured hidden) h = (refl, refl)
-
-  pub all_items_lem : (v : Value) → K Shared (List Value) (all_items v) (all_items v)
-  all_items_lem v =
-      let doing : List Object → Doing Running (List Value) = λ heap. ◌>>◌ (locations_read (locations_in heap v)) (give (items_in heap v)) in
-      looks doing doing (reads (locations_in G v) (locations_in H v) (items_in G v) (items_in H v) (items_read v))
+  items_read (Items all) q h = (refl, refl)
+  items_read Undefined q h = (refl, refl)
+  items_read Null q h = (refl, refl)
+  items_read (Truth b) q h = (refl, refl)
+  items_read (Int n) q h = (refl, refl)
+  items_read (Words t) q h = (refl, refl)
+  items_read (Record fields) q h = (refl, refl)
+  items_read (Elem shown k slot attributes children) q h = (refl, refl)
+  items_read (Closure site scope hidden) q h = (refl, refl)
+  items_read (Lifted symbol captured hidden) q h = (refl, refl)
 
   same_array : (o o' : Object) → One_kind o o' → is_array o' ≡ is_array o
   same_array _ _ two_plain = refl
   same_array _ _ two_props = refl
   same_array _ _ two_signals = refl
   same_array _ _ one_computed = refl
-  same_array _ _ (two_arrays l) = refl
+  same_array _ _ two_arrays = refl
 
-  same_list : (v : Value) → is_list H v ≡ is_list G v
-  same_list (Ref a) = same_array (object_at G a) (object_at H a) (kinds a)
-  same_list (Items all) = refl
-  same_list Undefined = refl
-  same_list Null = refl
-  same_list (Truth b) = refl
-  same_list (Int n) = refl
-  same_list (Words t) = refl
-  same_list (Record fields) = refl
-  same_list (Elem shown k slot attributes children) = refl
-  same_list (Closure site scope hidden) = refl
-  same_list (Lifted symbol captured hidden) = refl
+  same_list : (v : Value) → is_list G v ≡ true → is_list H v ≡ true
+  same_list (Ref a) q = same_array (object_at G a) (object_at H a) (kinds a (array_made a q)).1 ∙ q
+  same_list (Items all) q = refl
+  same_list _ q = absurd (false≢true q)
 
-  pub iterated_lem : (v : Value) → K Shared (List Value) (iterated v) (iterated v)
-  iterated_lem v =
-      let doing : List Object → Doing Running (List Value) = λ heap. chosen (is_list heap v) (all_items v) (fault TypeMismatch) in
-      looks doing doing (subst (λ b. K Shared (List Value) (chosen (is_list G v) (all_items v) (fault TypeMismatch)) (chosen b (all_items v) (fault TypeMismatch))) (sym (same_list v))
-      (L.choose outer G H K laws (is_list G v) (all_items_lem v) (faults _ _)))
+  pub all_items_lem : (v : Value) → K Shared (List Value) (all_items v) (all_items v)
+  all_items_lem v = looks doing doing (by_list (is_list G v) refl)
+    where
+      doing : List Object → Doing Running (List Value)
+      doing heap = chosen (is_list heap v) (items_taken heap v) (fault TypeMismatch)
+
+      by_list : (b : Bool) → is_list G v ≡ b → K Shared (List Value) (chosen b (items_taken G v) (fault TypeMismatch)) (doing H)
+      by_list true q = subst (λ c. K Shared (List Value) (items_taken G v) (chosen c (items_taken H v) (fault TypeMismatch))) (sym (same_list v q)) (reads (locations_in G v) (locations_in H v) (items_in G v) (items_in H v) (items_read v q))
+      by_list false q = faults _ _
 
   same_method : (t : Text) (o o' : Object) → One_kind o o' → object_method o' t ≡ object_method o t
   same_method t _ _ two_plain = refl
   same_method t _ _ two_props = refl
   same_method t _ _ two_signals = refl
   same_method t _ _ one_computed = refl
-  same_method t _ _ (two_arrays l) = refl
+  same_method t _ _ two_arrays = refl
 
-  same_methods : (object key : Value) → method_of H object key ≡ method_of G object key
-  same_methods (Ref a) (Words t) = same_method t (object_at G a) (object_at H a) (kinds a)
-  same_methods (Ref a) Undefined = refl
-  same_methods (Ref a) Null = refl
-  same_methods (Ref a) (Truth b) = refl
-  same_methods (Ref a) (Int n) = refl
-  same_methods (Ref a) (Ref b) = refl
-  same_methods (Ref a) (Items all) = refl
-  same_methods (Ref a) (Record fields) = refl
-  same_methods (Ref a) (Elem shown k slot attributes children) = refl
-  same_methods (Ref a) (Closure site scope hidden) = refl
-  same_methods (Ref a) (Lifted symbol captured hidden) = refl
-  same_methods (Items all) (Words t) = refl
-  same_methods (Items all) Undefined = refl
-  same_methods (Items all) Null = refl
-  same_methods (Items all) (Truth b) = refl
-  same_methods (Items all) (Int n) = refl
-  same_methods (Items all) (Ref b) = refl
-  same_methods (Items all) (Items others) = refl
-  same_methods (Items all) (Record fields) = refl
-  same_methods (Items all) (Elem shown k slot attributes children) = refl
-  same_methods (Items all) (Closure site scope hidden) = refl
-  same_methods (Items all) (Lifted symbol captured hidden) = refl
-  same_methods (Words u) (Words t) = refl
-  same_methods (Words u) Undefined = refl
-  same_methods (Words u) Null = refl
-  same_methods (Words u) (Truth b) = refl
-  same_methods (Words u) (Int n) = refl
-  same_methods (Words u) (Ref b) = refl
-  same_methods (Words u) (Items others) = refl
-  same_methods (Words u) (Record fields) = refl
-  same_methods (Words u) (Elem shown k slot attributes children) = refl
-  same_methods (Words u) (Closure site scope hidden) = refl
-  same_methods (Words u) (Lifted symbol captured hidden) = refl
-  same_methods Undefined key = refl
-  same_methods Null key = refl
-  same_methods (Truth b) key = refl
-  same_methods (Int n) key = refl
-  same_methods (Record fields) key = refl
-  same_methods (Elem shown k slot attributes children) key = refl
-  same_methods (Closure site scope hidden) key = refl
-  same_methods (Lifted symbol captured hidden) key = refl
+  -- an object that is named was made in the first
+  abbrev Made_there : Value → Type 0
+  Made_there (Ref a) = is_made G a ≡ true
+  Made_there _ = Unit {0}
+
+  same_methods : (object key : Value) → Made_there object → method_of H object key ≡ method_of G object key
+  same_methods (Ref a) (Words t) m = same_method t (object_at G a) (object_at H a) (kinds a m).1
+  same_methods (Ref a) Undefined m = refl
+  same_methods (Ref a) Null m = refl
+  same_methods (Ref a) (Truth b) m = refl
+  same_methods (Ref a) (Int n) m = refl
+  same_methods (Ref a) (Ref b) m = refl
+  same_methods (Ref a) (Items all) m = refl
+  same_methods (Ref a) (Record fields) m = refl
+  same_methods (Ref a) (Elem shown k slot attributes children) m = refl
+  same_methods (Ref a) (Closure site scope hidden) m = refl
+  same_methods (Ref a) (Lifted symbol captured hidden) m = refl
+  same_methods (Items all) (Words t) m = refl
+  same_methods (Items all) Undefined m = refl
+  same_methods (Items all) Null m = refl
+  same_methods (Items all) (Truth b) m = refl
+  same_methods (Items all) (Int n) m = refl
+  same_methods (Items all) (Ref b) m = refl
+  same_methods (Items all) (Items others) m = refl
+  same_methods (Items all) (Record fields) m = refl
+  same_methods (Items all) (Elem shown k slot attributes children) m = refl
+  same_methods (Items all) (Closure site scope hidden) m = refl
+  same_methods (Items all) (Lifted symbol captured hidden) m = refl
+  same_methods (Words u) (Words t) m = refl
+  same_methods (Words u) Undefined m = refl
+  same_methods (Words u) Null m = refl
+  same_methods (Words u) (Truth b) m = refl
+  same_methods (Words u) (Int n) m = refl
+  same_methods (Words u) (Ref b) m = refl
+  same_methods (Words u) (Items others) m = refl
+  same_methods (Words u) (Record fields) m = refl
+  same_methods (Words u) (Elem shown k slot attributes children) m = refl
+  same_methods (Words u) (Closure site scope hidden) m = refl
+  same_methods (Words u) (Lifted symbol captured hidden) m = refl
+  same_methods Undefined key m = refl
+  same_methods Null key m = refl
+  same_methods (Truth b) key m = refl
+  same_methods (Int n) key m = refl
+  same_methods (Record fields) key m = refl
+  same_methods (Elem shown k slot attributes children) key m = refl
+  same_methods (Closure site scope hidden) key m = refl
+  same_methods (Lifted symbol captured hidden) key m = refl
 
   -- ---- what is made
 
@@ -359,11 +378,12 @@ module _ (outer : List ℕ) (G H : List Object) (K : Relation) (laws : Laws oute
 
   in_every_way : {B : Type 0} (heap : List Object) (v : Value) (m : Unit {0} → Doing Running B) (m' : Doing Running B) (b : Bool) → b ≡ false → K Shared B (◌>>=◌ (unless_fault (in_the_way b heap v)) m) m'
   in_every_way heap v m m' true e = absurd (true≢false e)
-  in_every_way {B} heap (Ref a) m m' false e = by_state (is_state (object_at heap a))
+  in_every_way {B} heap (Ref a) m m' false e = by_state (is_made heap a) (is_state (object_at heap a))
     where
-      by_state : (b : Bool) → K Shared B (◌>>=◌ (unless_fault (elim b [ false ↦ Some FixedWrite | true ↦ Some RenderWrite ])) m) m'
-      by_state true = stops _ _
-      by_state false = stops _ _
+      by_state : (c b : Bool) → K Shared B (◌>>=◌ (unless_fault (elim c [ false ↦ Some NoProperty | true ↦ elim b [ false ↦ Some FixedWrite | true ↦ Some RenderWrite ] ])) m) m'
+      by_state true true = stops _ _
+      by_state true false = stops _ _
+      by_state false b = stops _ _
   in_every_way heap Undefined m m' false e = stops _ _
   in_every_way heap Null m m' false e = stops _ _
   in_every_way heap (Truth b) m m' false e = stops _ _
@@ -445,10 +465,30 @@ module _ (outer : List ℕ) (G H : List Object) (K : Relation) (laws : Laws oute
   member_callee_lem object key (Some m) = gives _
   member_callee_lem object key None = bind (read_lem object key) (λ f. gives (A_value f))
 
+  callee_made : (object key : Value) → Made_there object → K Shared Callee (member_callee here object key (method_of G object key)) (member_callee there object key (method_of H object key))
+  callee_made object key q =
+      subst (λ m. K Shared Callee (member_callee here object key (method_of G object key)) (member_callee there object key m)) (sym (same_methods object key q)) (member_callee_lem object key (method_of G object key))
+
+  -- where nothing was made no method is called, and what is read to be called isn't there
+  no_method : (a : ℕ) (key : Value) → is_made G a ≡ false → method_of G (Ref a) key ≡ None
+  no_method a (Words t) m = ap (λ o. object_method o t) (unmade G a m)
+  no_method a _ m = refl
+
+  not_called : (a : ℕ) (key : Value) (m' : Doing Running Callee) → is_made G a ≡ false → K Shared Callee (member_callee here (Ref a) key None) m'
+  not_called a key m' m =
+      looks (λ heap. ◌>>=◌ (member_value here (read_member heap (Ref a) key)) (λ f. give (A_value f))) (λ heap. m')
+      (subst (λ b. K Shared Callee (◌>>=◌ (member_value here (elim b as (λ x. Member_read) [ true ↦ read_object a (object_at G a) key | false ↦ Not_there NoProperty ])) (λ f. give (A_value f))) m') (sym m) (stops _ _))
+
+  callee_at : (object key : Value) → K Shared Callee (member_callee here object key (method_of G object key)) (member_callee there object key (method_of H object key))
+  callee_at (Ref a) key = by_made (is_made G a) refl
+    where
+      by_made : (b : Bool) → is_made G a ≡ b → K Shared Callee (member_callee here (Ref a) key (method_of G (Ref a) key)) (member_callee there (Ref a) key (method_of H (Ref a) key))
+      by_made true m = callee_made (Ref a) key m
+      by_made false m = subst (λ x. K Shared Callee (member_callee here (Ref a) key x) (member_callee there (Ref a) key (method_of H (Ref a) key))) (sym (no_method a key m)) (not_called a key _ m)
+  callee_at object key = callee_made object key tt
+
   pub callee_lem : (r : Reference) → K Shared Callee (callee here r) (callee there r)
-  callee_lem (Member object key) =
-      looks (λ heap. member_callee here object key (method_of heap object key)) (λ heap. member_callee there object key (method_of heap object key))
-      (subst (λ m. K Shared Callee (member_callee here object key (method_of G object key)) (member_callee there object key m)) (sym (same_methods object key)) (member_callee_lem object key (method_of G object key)))
+  callee_lem (Member object key) = looks (λ heap. member_callee here object key (method_of heap object key)) (λ heap. member_callee there object key (method_of heap object key)) (callee_at object key)
   callee_lem Tracker = gives _
   callee_lem (Framework_name name) = gives _
   callee_lem (Of v) = gives _
@@ -491,9 +531,19 @@ module _ (outer : List ℕ) (G H : List Object) (K : Relation) (laws : Laws oute
   names_lem a _ _ e e' (two_props {f} {g}) =
       let locs : List Loc = record { address = a; key = Keys } ∷ [] in
       bind (reads locs locs (names_of f) (names_of g) (λ (h : All_agree G H locs). (refl, sym (ap standing_names (there_at a G H (Props f) (Props g) e e' Keys h.0))))) (λ names. made_list_lem (as_values names))
-  names_lem a _ _ e e' (two_arrays l) = stops _ _
+  names_lem a _ _ e e' two_arrays = stops _ _
   names_lem a _ _ e e' two_signals = stops _ _
   names_lem a _ _ e e' one_computed = stops _ _
+
+  -- the keys at an address; where nothing was made there are none
+  made_names : (a : ℕ) (b : Bool) → is_made G a ≡ b
+      → K Shared Value (◌>>=◌ (answered (elim b as (λ x. Answer (List Text × List Loc)) [ true ↦ object_keys a (object_at G a) | false ↦ Fails TypeMismatch ])) (λ keys. ◌>>◌ (locations_read keys.1) (made_list here (as_values keys.0))))
+      (◌>>=◌ (answered (keys_in H (Ref a))) (λ keys. ◌>>◌ (locations_read keys.1) (made_list there (as_values keys.0))))
+  made_names a true m =
+      subst (λ c. K Shared Value (◌>>=◌ (answered (object_keys a (object_at G a))) (λ keys. ◌>>◌ (locations_read keys.1) (made_list here (as_values keys.0))))
+          (◌>>=◌ (answered (elim c as (λ x. Answer (List Text × List Loc)) [ true ↦ object_keys a (object_at H a) | false ↦ Fails TypeMismatch ])) (λ keys. ◌>>◌ (locations_read keys.1) (made_list there (as_values keys.0))))) (sym (kinds a m).0)
+      (names_lem a (object_at G a) (object_at H a) refl refl (kinds a m).1)
+  made_names a false m = stops _ _
 
   listed_keys : List Object → Value → Setting → Doing Running Value
   listed_keys heap v at = ◌>>=◌ (answered (keys_in heap v)) (λ keys. ◌>>◌ (locations_read keys.1) (made_list at (as_values keys.0)))
@@ -503,7 +553,7 @@ module _ (outer : List ℕ) (G H : List Object) (K : Relation) (laws : Laws oute
     where
       by_value : (v : Value)
           → K Shared Value (◌>>=◌ (answered (keys_in G v)) (λ keys. ◌>>◌ (locations_read keys.1) (made_list here (as_values keys.0)))) (◌>>=◌ (answered (keys_in H v)) (λ keys. ◌>>◌ (locations_read keys.1) (made_list there (as_values keys.0))))
-      by_value (Ref a) = names_lem a (object_at G a) (object_at H a) refl refl (kinds a)
+      by_value (Ref a) = made_names a (is_made G a) refl
       by_value (Record fields) = bind (reads [] [] (names_of fields) (names_of fields) (λ h. (refl, refl))) (λ names. made_list_lem (as_values names))
       by_value Undefined = stops _ _
       by_value Null = stops _ _
@@ -620,7 +670,7 @@ module _ (outer : List ℕ) (G H : List Object) (K : Relation) (laws : Laws oute
     runs (Stmt.If' condition _ chosen_part _ otherwise) = bind (valued_lem (refers condition)) (λ v. L.choose outer G H K laws (is_true v) (L.scopes outer G H K laws (declared_in chosen_part) (all_run chosen_part)) (L.scopes outer G H K laws (declared_in otherwise) (all_run otherwise)))
     runs (Stmt.While' condition _ body) = L.repeats outer G H K laws (valued_lem (refers condition)) (L.scopes outer G H K laws (declared_in body) (all_run body))
     runs (Stmt.ForOf' name e _ body) =
-        bind (valued_lem (refers e)) (λ v. bind (iterated_lem v) (λ items. L.repeated_fors outer G H K laws (λ item. L.scopes outer G H K laws (name ∷ []) (bind (assigned_lem name item) (λ u. L.scopes outer G H K laws (declared_in body) (all_run body)))) items))
+        bind (valued_lem (refers e)) (λ v. bind (all_items_lem v) (λ items. L.repeated_fors outer G H K laws (λ item. L.scopes outer G H K laws (name ∷ []) (bind (assigned_lem name item) (λ u. L.scopes outer G H K laws (declared_in body) (all_run body)))) items))
     runs Stmt.Break = gives Broke
     runs Stmt.Continue = gives Continued
     runs (Statement_block' _ statements) = L.scopes outer G H K laws (declared_in statements) (all_run statements)

@@ -1,8 +1,8 @@
 -- What was read decides a value: words for two evaluations of the same function with the same arguments in two heaps.
-use Rattle.std.specs.Prelude.{ℕ, false, List, [], ◌∷◌, ◌++◌, length, ⊤, ◌≡◌, ◌≤◌}
+use Rattle.std.specs.Prelude.{ℕ, true, false, List, [], ◌∷◌, ◌++◌, length, ⊤, ◌≡◌}
 use Rattle.qk_meaning.specs.Value.{Text, Value}
 use Rattle.qk_meaning.specs.World.{Object, Plain, Array, Signal, Computed, Props, Key, Keys, Length, Index, Prop, Loc}
-use Rattle.qk_meaning.specs.Heap.{object_at}
+use Rattle.qk_meaning.specs.Heap.{is_made, object_at}
 use Rattle.qk_meaning.specs.Parts.{listed, nth, value_at, names_of}
 use Rattle.qk_meaning.specs.Program.{Program}
 use Rattle.qk_meaning.specs.Doing.{Outcome, Gives, Stops, Faults, Ends}
@@ -31,17 +31,17 @@ at_key _ _ = Nothing
 abbrev pub stands_at : List Object → Loc → Standing
 stands_at heap l = at_key (object_at heap l.address) l.key
 
--- objects of one kind; a computed's function never changes, so it belongs to the kind; where an array has no locations both hold the same, as arrays of at most 65,536 items do
+-- objects of one kind; a computed's function never changes, so it belongs to the kind
 pub data One_kind : Object → Object → Type 0 where
   two_plain : {f g : _} → One_kind (Plain f) (Plain g)
-  two_arrays : {v w : _} → ((n : ℕ) → 65536 ≤ n → nth (listed w) n ≡ nth (listed v) n) → One_kind (Array v) (Array w)
+  two_arrays : {v w : _} → One_kind (Array v) (Array w)
   two_signals : {v w : _} → One_kind (Signal v) (Signal w)
   one_computed : {f : _} → One_kind (Computed f) (Computed f)
   two_props : {f g : _} → One_kind (Props f) (Props g)
 
--- at each address stands an object of one kind
+-- where an object was made in the first heap one of its kind was made in the second
 abbrev pub Kinds_agree : List Object → List Object → Type 0
-Kinds_agree heap heap' = (a : ℕ) → One_kind (object_at heap a) (object_at heap' a)
+Kinds_agree heap heap' = (a : ℕ) → is_made heap a ≡ true → (is_made heap' a ≡ true) × One_kind (object_at heap a) (object_at heap' a)
 
 -- at the locations that are read stands the same in both heaps, and no computed that runs is one of these
 abbrev pub Agree_on : List ℕ → List Object → List Object → List Happening → Type 0
@@ -89,7 +89,7 @@ Repeats_or_ends t a news (Stops (Faults f) t') = ⊥
 Repeats_or_ends t a news (Stops Ends t') = ⊤
 Repeats_or_ends {A} t a news (Gives b t') = Repeats A t a b t' news
 
--- What was read decides a value. Where the call of a function gives a value in a mode in which nothing is written, and no hooks are made, then in a heap of the same kinds in which
+-- What was read decides a value. Where the call of a function gives a value in a mode in which nothing is written, and no hooks are made, then in a heap that has its objects, of the same kinds, and in which
 -- the same stands at all that was read the same call gives that value, and reads and enters the same, unless it ends for its budget; also where other computeds are under way, as long
 -- as none of them was run in the first call.
 abbrev pub ReadsDecide : Type 0

@@ -33,11 +33,11 @@ picks (n ∷ names) f g h = item_stands (h n (ap (λ b. elim b as (λ y. Bool) [
     later false c e = e
 
 -- a scope cut to some names has those names, and their values
-cut_held : (names : List Text) (x : Text) (g : Fields) → has_field x (zipped names (picked names g)) ≡ is_listed x names
+pub cut_held : (names : List Text) (x : Text) (g : Fields) → has_field x (zipped names (picked names g)) ≡ is_listed x names
 cut_held [] x g = refl
 cut_held (n ∷ names) x g = ap (λ c. elim (same_text n x) as (λ y. Bool) [ true ↦ true | false ↦ c ]) (cut_held names x g)
 
-cut_value : (names : List Text) (x : Text) (g : Fields) → is_listed x names ≡ true → value_at x (zipped names (picked names g)) ≡ value_at x g
+pub cut_value : (names : List Text) (x : Text) (g : Fields) → is_listed x names ≡ true → value_at x (zipped names (picked names g)) ≡ value_at x g
 cut_value [] x g e = absurd (not_both (sym e))
 cut_value (n ∷ names) x g e = go (same_text n x) refl e (cut_value names x g)
   where
