@@ -428,7 +428,7 @@ module _ {t : Ties} where
   elements a_slot h k = elems (slot_shown (names_among h)) refl refl end_stands none_stand
   elements an_element h k = elems an_element (keys_among h) (slots_among h) (shown_alike h) k
   elements a_fragment h k = elems a_fragment (keys_among h) (slots_among h) (shown_alike h) k
-  elements (a_component l c) h k = elems (a_component l c) (keys_among h) (slots_among h) (shown_alike h) k
+  elements (a_component l c e) h k = elems (a_component l c e) (keys_among h) (slots_among h) (shown_alike h) k
   elements (a_symbol l c) h k = elems (a_symbol l c) (keys_among h) (slots_among h) (shown_alike h) k
   elements (own_symbol l c) h k = elems (own_symbol l c) (keys_among h) (slots_among h) (shown_alike h) k
 

@@ -48,41 +48,41 @@ module _ (captures : Site → List Text) where
 
 module _ (t : Ties) (apart : Apart t) (second : Site → List Text) (second_captures : (site : Site) → t.stays site ≡ true → second (t.other site) ≡ t.captures site) where
   shown_same : {x x' y y' : Shown} → Shown_as t x x' → Shown_as t y y' → same_shown x y ≡ same_shown x' y'
-  shown_same (a_component {site = s} h _) (a_component {site = u} k _) = apart.sites_one s u h k
+  shown_same (a_component {site = s} h _ _) (a_component {site = u} k _ _) = apart.sites_one s u h k
   shown_same (a_symbol {site = s} h _) (a_symbol {site = u} k _) = apart.symbols_one s u h k
-  shown_same (a_component {site = s} h _) (a_symbol {site = u} k _) = (apart.kinds_apart u s k h).1
-  shown_same (a_symbol {site = s} h _) (a_component {site = u} k _) = (apart.kinds_apart s u h k).0
+  shown_same (a_component {site = s} h _ _) (a_symbol {site = u} k _) = (apart.kinds_apart u s k h).1
+  shown_same (a_symbol {site = s} h _) (a_component {site = u} k _ _) = (apart.kinds_apart s u h k).0
   shown_same (a_symbol {site = s} h _) (own_symbol k _) = absurd (apart.no_both s h k)
   shown_same (own_symbol k _) (a_symbol {site = s} h _) = absurd (apart.no_both s h k)
   shown_same an_element an_element = refl
   shown_same an_element a_fragment = refl
   shown_same an_element a_slot = refl
-  shown_same an_element (a_component k0 _) = refl
+  shown_same an_element (a_component k0 _ _) = refl
   shown_same an_element (a_symbol k0 _) = refl
   shown_same an_element (own_symbol k0 _) = refl
   shown_same a_fragment an_element = refl
   shown_same a_fragment a_fragment = refl
   shown_same a_fragment a_slot = refl
-  shown_same a_fragment (a_component k0 _) = refl
+  shown_same a_fragment (a_component k0 _ _) = refl
   shown_same a_fragment (a_symbol k0 _) = refl
   shown_same a_fragment (own_symbol k0 _) = refl
   shown_same a_slot an_element = refl
   shown_same a_slot a_fragment = refl
   shown_same a_slot a_slot = refl
-  shown_same a_slot (a_component k0 _) = refl
+  shown_same a_slot (a_component k0 _ _) = refl
   shown_same a_slot (a_symbol k0 _) = refl
   shown_same a_slot (own_symbol k0 _) = refl
-  shown_same (a_component h0 _) an_element = refl
-  shown_same (a_component h0 _) a_fragment = refl
-  shown_same (a_component h0 _) a_slot = refl
-  shown_same (a_component h0 _) (own_symbol k0 _) = refl
+  shown_same (a_component h0 _ _) an_element = refl
+  shown_same (a_component h0 _ _) a_fragment = refl
+  shown_same (a_component h0 _ _) a_slot = refl
+  shown_same (a_component h0 _ _) (own_symbol k0 _) = refl
   shown_same (a_symbol h0 _) an_element = refl
   shown_same (a_symbol h0 _) a_fragment = refl
   shown_same (a_symbol h0 _) a_slot = refl
   shown_same (own_symbol h0 _) an_element = refl
   shown_same (own_symbol h0 _) a_fragment = refl
   shown_same (own_symbol h0 _) a_slot = refl
-  shown_same (own_symbol h0 _) (a_component k0 _) = refl
+  shown_same (own_symbol h0 _) (a_component k0 _ _) = refl
   shown_same (own_symbol h0 _) (own_symbol k0 _) = refl
 
   three : {a a' d d' : Bool} (b : Bool) → a ≡ a' → d ≡ d' → (b && a && d) ≡ (b && a' && d')

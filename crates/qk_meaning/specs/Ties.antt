@@ -6,6 +6,7 @@ use Rattle.qk_ast.specs.Texts.{same_text}
 use Rattle.qk_ast.specs.Names.{is_listed}
 use Rattle.qk_meaning.specs.Parts.{has_field, picked, packed, listed}
 use Rattle.qk_meaning.specs.Same.{same_site}
+use Rattle.qk_meaning.specs.Program.{symbol_of}
 
 -- two addresses that stand for one another
 pub record Pair : Type 0 where
@@ -52,12 +53,12 @@ Fits t site scope = (name : Text) → is_listed name (t.free site) ≡ true → 
 abbrev pub Counted : Ties → Text → Values → Type 0
 Counted t symbol v = length (listed v) ≡ length (t.taken symbol)
 
--- the same tag or Slot, or components that stand for one another; these capture nothing
+-- the same tag or Slot, or components that stand for one another; these capture nothing, and a site that stays is spelled the same on both sides
 pub data Shown_as (t : Ties) : Shown → Shown → Type 0 where
   an_element : {tag : Text} → Shown_as t (Element tag) (Element tag)
   a_fragment : Shown_as t Fragment Fragment
   a_slot : {name : Text} → Shown_as t (Slot name) (Slot name)
-  a_component : {site : Site} → t.stays site ≡ true → t.captures site ≡ [] → Shown_as t (Component site) (Component (t.other site))
+  a_component : {site : Site} → t.stays site ≡ true → t.captures site ≡ [] → symbol_of site ≡ symbol_of (t.other site) → Shown_as t (Component site) (Component (t.other site))
   a_symbol : {site : Site} → t.lifts site ≡ true → t.captures site ≡ [] → Shown_as t (Component site) (Lifted_component (t.symbol site))
   own_symbol : {symbol : Text} → t.symbols ≡ true → t.taken symbol ≡ [] → Shown_as t (Lifted_component symbol) (Lifted_component symbol)
 

@@ -74,7 +74,7 @@ pub functions_stand : {t : Ties} {x y : Shown} → Shown_as t x y → Stands t (
 functions_stand an_element = undefined
 functions_stand a_fragment = undefined
 functions_stand a_slot = undefined
-functions_stand {t} (a_component {site = site} h c) = closure h (λ name k. sym (ap (is_listed name) c)) (λ name k. sym (ap (is_listed name) c)) (subst (λ ns. All_stand t (packed (picked ns end)) (packed (picked ns end))) (sym c) none_stand)
+functions_stand {t} (a_component {site = site} h c _) = closure h (λ name k. sym (ap (is_listed name) c)) (λ name k. sym (ap (is_listed name) c)) (subst (λ ns. All_stand t (packed (picked ns end)) (packed (picked ns end))) (sym c) none_stand)
 functions_stand {t} (a_symbol {site = site} h c) = by_symbol h (λ name k. sym (ap (is_listed name) c)) (subst (λ ns. All_stand t (packed (picked ns end)) none) (sym c) none_stand)
 functions_stand (own_symbol h c) = lifted h (sym (ap length c)) none_stand
 

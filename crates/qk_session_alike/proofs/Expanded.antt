@@ -87,11 +87,11 @@ texts_stand : {t : Ties} (w : Text) → Nodes_stand t (text_nodes w) (text_nodes
 texts_stand [] = no_nodes_stand
 texts_stand (c ∷ more) = node_stands shows_text no_nodes_stand
 
-names_alike : {t : Ties} → Named_alike t → {x y : Shown} → Shown_as t x y → step_name x ≡ step_name y
+pub names_alike : {t : Ties} → Named_alike t → {x y : Shown} → Shown_as t x y → step_name x ≡ step_name y
 names_alike n an_element = refl
 names_alike n a_fragment = refl
 names_alike n a_slot = refl
-names_alike n (a_component {site = s} h c) = n.stayed s h
+names_alike n (a_component h c e) = e
 names_alike n (a_symbol {site = s} h c) = n.lifted s h
 names_alike n (own_symbol h c) = refl
 
@@ -149,7 +149,7 @@ module _ {t : Ties} (named : Named_alike t) {S S' : Type 0} {K : (A B : Type 0) 
     elem_lem path g an_element f v = wraps (λ v w k. tagged f k) (in_orders e path g (places v))
     elem_lem path g a_fragment f v = in_orders e path g (places v)
     elem_lem path g (a_slot {name = name}) f v = slot_lem path name g
-    elem_lem path g (a_component h c) f v = component_lem path g (a_component h c) f v
+    elem_lem path g (a_component h c e) f v = component_lem path g (a_component h c e) f v
     elem_lem path g (a_symbol h c) f v = component_lem path g (a_symbol h c) f v
     elem_lem path g (own_symbol h c) f v = component_lem path g (own_symbol h c) f v
 

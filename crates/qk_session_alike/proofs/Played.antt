@@ -24,7 +24,7 @@ use Rattle.qk_alike.proofs.Told.{tasks_alike}
 use Rattle.qk_session_alike.specs.Trees_stand.{Nodes_stand, Met_stand, met_alike, Named_alike}
 use Rattle.qk_session_alike.proofs.Expanded.{Visits_stand, apps_expand}
 use Rattle.qk_session_alike.proofs.Props_set.{Sames_agree}
-use Rattle.qk_session_alike.proofs.Executed.{Asks_more, functions_stand, execution_lem, props_set_lem}
+use Rattle.qk_session_alike.proofs.Executed.{Asks_more, execution_lem, props_set_lem}
 use Rattle.qk_session_alike.proofs.Sessions_kept.{Session_relation, Session_laws, Dues_stand, none_due, both_due}
 
 -- instances of one path are found alike
@@ -55,7 +55,7 @@ module _ {t : Ties} (apart : Apart t) (named : Named_alike t) {b : Start} (laws 
   mount_lem : {m m' : Met} → Met_stand t m m' → K Value Value (Stands t) (mount P computed levels m) (mount Q computed levels m')
   mount_lem (met_alike {path = path} s f) =
       bind executed_now (λ all all' i. bind (ran (laws.makes (props f))) (λ p q k. bind (ran (execution_lem apart laws more P Q computed levels E sames (both_mounting {path = path} i no_more) s k)) (λ e e' h.
-      stands_lem true (record { path = refl {a = path}; component = functions_stand s; props = k; hooks = h.hooks; view = h.view; reads = h.reads }))))
+      stands_lem true (record { path = refl {a = path}; component = s; props = k; hooks = h.hooks; view = h.view; reads = h.reads }))))
 
   run_again_lem : {i j : Instance} → Instances_stand t b i j → {m m' : Met} → Met_stand t m m' → K Value Value (Stands t) (run_again P computed levels i m) (run_again Q computed levels j m')
   run_again_lem h (met_alike s f) = bind (ran (execution_lem apart laws more P Q computed levels E sames (both_again h.hooks) s h.props)) (λ e e' k.

@@ -29,7 +29,6 @@ pub data Given_stand (t : Ties) : Given → Given → Type 0 where
 pub data Met_stand (t : Ties) : Met → Met → Type 0 where
   met_alike : {path : List Step} {x y : Shown} {f g : Fields} → Shown_as t x y → Fields_stand t f g → Met_stand t (record { path = path; shown = x; fields = f }) (record { path = path; shown = y; fields = g })
 
--- a component has one name in paths on both sides: its symbol
+-- a component that is a symbol in the second reading has one name in paths on both sides: its symbol
 pub record Named_alike (t : Ties) : Type 0 where
   pub lifted : (site : Site) → t.lifts site ≡ true → symbol_of site ≡ t.symbol site
-  pub stayed : (site : Site) → t.stays site ≡ true → symbol_of site ≡ symbol_of (t.other site)

@@ -69,16 +69,16 @@ accepted_apps_stand modules accepted pairing = shown_alike (source_ties modules 
 -- ---- sessions
 
 names_alike : (modules : List Named_module) (pairing : Pairing) → Named_alike (source_ties modules lifts_in_source stays_in_source pairing)
-names_alike modules pairing = record { lifted = λ s h. refl; stayed = λ s h. refl }
+names_alike modules pairing = record { lifted = λ s h. refl }
 
 pub accepted_events_agree : AcceptedEventsAgree
 accepted_events_agree modules accepted pairing one =
     events_agree (source_ties modules lifts_in_source stays_in_source pairing) (program_of modules) (captured_program_of modules) (apart modules accepted pairing one) (programs modules lifts_in_source stays_in_source pairing (rules modules accepted pairing one)) (names_alike modules pairing)
 
-none_among : {C : Type 0} (a b : ℕ) → Among [] a b → C
+pub none_among : {C : Type 0} (a b : ℕ) → Among [] a b → C
 none_among a b h = elim h [ ]
 
-all_apart : Pairs_apart all_new
+pub all_apart : Pairs_apart all_new
 all_apart = record { left_made = λ a b h. none_among a b h; right_made = λ a b h. none_among a b h; right = λ a b c h k. none_among a b h; left = λ a b c h k. none_among a c h }
 
 module _ (modules : List Named_module) (accepted : Accepted modules) where
