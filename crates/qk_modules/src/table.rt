@@ -10,6 +10,9 @@ use qk_shared::{Builder, Text};
 use std::alloc::{AllocError, Global};
 
 /// The imported names of the module at a place of the list, counted from 0, each with its origin, in the order of its text.
+///
+/// The origin is told by the import's source alone: a source that names a module is of that module, any other of the framework. In a list that
+/// `gather` gave, that module stands in the list and exports the name, and other sources are the framework's; in another list neither is tried.
 pub fn imports(alloc: Global, modules: &Modules, at: usize) -> Result<ImportTable, ModulesFault>
     requires { at < length modules.now.list }
     ensures { IfOk result (λ table. (m : _) × (slice_get modules.now.list at ≡ Some m) × (table.entries ≡ imported m.module.imports)) }
