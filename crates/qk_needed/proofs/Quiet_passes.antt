@@ -15,7 +15,7 @@ use Rattle.qk_meaning.specs.Doing.{Doing, Outcome, Gives, Stops, ◌>>=◌, ◌>
 use Rattle.qk_meaning.specs.Happening.{Happening, Entered, Which, At_site, Of_symbol}
 use Rattle.qk_meaning.specs.Running.{Running, Pure, Outside, Hooking, Again, Mounting, noted, turn_of, unless_fault, hooking_becomes}
 use Rattle.qk_meaning.specs.Trace.{entries, own_reads}
-use Rattle.qk_meaning.specs.Setting.{setting_of}
+use Rattle.qk_meaning.specs.Setting.{setting_of, captures}
 use Rattle.qk_meaning.specs.Evaluation.{inside, entering}
 use Rattle.qk_meaning.specs.Laws_of_code.{Adds}
 use Rattle.qk_meaning.specs.Expansion.{Met, Nodes, expand_app}
@@ -98,7 +98,7 @@ call_enters program (suc d) (Closure site scope hidden) arguments s =
     let E = More.adding called_if_needed More.if_needed_adds program d in
     let here = setting_of program called_if_needed enter Pure [] code in
     behind_entering (At_site site) (inside code here scope arguments)
-    (Meanings.insides Adding Growth.laws (hook_laws Adding Growth.laws Growth.hooking_laws) here enter (called_if_needed enter []) E (More.if_needed_adds enter enter E []) code scope arguments) s
+    (Meanings.insides Adding (Growth.laws (captures here)) (hook_laws Adding (Growth.laws (captures here)) Growth.hooking_laws) here (Growth.named (captures here)) enter (called_if_needed enter []) E (More.if_needed_adds enter enter E []) code scope arguments) s
 call_enters program (suc d) (Lifted symbol captured hidden) arguments s =
     let code = program.lifted symbol in
     let enter = entering program called_if_needed d in
@@ -106,7 +106,7 @@ call_enters program (suc d) (Lifted symbol captured hidden) arguments s =
     let here = setting_of program called_if_needed enter Pure [] code in
     let scope = zipped code.captures (listed captured) in
     behind_entering (Of_symbol symbol) (inside code here scope arguments)
-    (Meanings.insides Adding Growth.laws (hook_laws Adding Growth.laws Growth.hooking_laws) here enter (called_if_needed enter []) E (More.if_needed_adds enter enter E []) code scope arguments) s
+    (Meanings.insides Adding (Growth.laws (captures here)) (hook_laws Adding (Growth.laws (captures here)) Growth.hooking_laws) here (Growth.named (captures here)) enter (called_if_needed enter []) E (More.if_needed_adds enter enter E []) code scope arguments) s
 call_enters program (suc d) f arguments s = tt
 
 -- ---- a pass: it mounts, or enters a function, or does what the other does
@@ -224,7 +224,7 @@ module _ (program : Program) (levels : ℕ) where
       quiet_binds (runs (props_set program called_if_needed levels i.props met.fields)) (runs (props_set program called_if_needed 0 i.props met.fields))
       (λ u. ◌>>=◌ (asked (λ w. isn't_stale i w.running)) (λ kept. chosen kept (stands false i) (run_again program called_if_needed levels i met)))
       (λ u. ◌>>=◌ (asked (λ w. true)) (λ kept. chosen kept (stands false i) (run_again program called_if_needed 0 i met)))
-      (same_code (props_set program called_if_needed levels i.props met.fields) (λ s. Growth.laws.acts i.props (props_become alike met.fields) (λ old new. props_log alike i.props (fields_of old) met.fields) (props_kept alike met.fields) s))
+      (same_code (props_set program called_if_needed levels i.props met.fields) (λ s. Growth.props_add program i.props met.fields s))
       (λ u w. kept_or_executed i met (isn't_stale i w.running) w)
 
   visit_quiet : (met : Met) → Quietly Value (keep_or_mount isn't_stale program levels met) (keep_or_mount (λ i s. true) program 0 met)

@@ -223,7 +223,7 @@ module _ (log0 : List Loc) where
     props_fine : (i : Instance) (given : Fields) → Keeps (Unit {0}) (runs (props_set program computed levels i.props given))
     props_fine i given =
         let alike = same (captures_in program) in
-        run_left (props_set program computed levels i.props given) (λ s. Growth.laws.acts i.props (props_become alike given) (λ old new. props_log alike i.props (fields_of old) given) (props_kept alike given) s)
+        run_left (props_set program computed levels i.props given) (λ s. Growth.props_add program i.props given s)
 
     -- every instance is executed
     pub whole_fine : (met : Met) → Keeps Value (take_or_mount program computed levels met)
