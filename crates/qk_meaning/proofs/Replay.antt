@@ -13,7 +13,7 @@ use Rattle.qk_meaning.specs.Happening.{Happening, Did_log, Did_print, Hooked, Be
 use Rattle.qk_meaning.specs.Running.{Running, Hooking, Outside, Mounting, Again, Told, is_outside, take_turn, turn_of, logs_told, as_part, unhooked, heap_of, replaced_at, logged, becomes_so, becomes_by}
 use Rattle.qk_meaning.specs.Trace.{answers_in}
 use Rattle.qk_meaning.specs.Setting.{as_computed, called_anew}
-use Rattle.qk_meaning.specs.Hooks.{one_more, hook_made, answer_to, answered_hook}
+use Rattle.qk_meaning.specs.Hooks.{one_more, hook_made, answered_hook}
 use Rattle.qk_meaning.specs.Evaluation.{entering}
 use Rattle.qk_meaning.specs.Laws_of_code as Of_code
 use Rattle.qk_meaning.specs.Laws_of_code.{Replays}

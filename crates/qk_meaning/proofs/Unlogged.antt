@@ -17,9 +17,9 @@ use Rattle.qk_meaning.specs.Same.{same}
 use Rattle.qk_meaning.specs.Changes.{unless_same, changed_indexes, changed_properties, added_properties, changed_keys, changed_length, changed_in, located}
 use Rattle.qk_meaning.specs.Standing.{Standing, A_value, Some_names, A_length, Nothing, at_key, Same_standing}
 use Rattle.qk_meaning.specs.Props.{kept_fields, new_fields, appended, fields_after, changed, lacks_some, props_log}
-use Rattle.qk_meaning.specs.Execution.{fields_of, props_become}
+use Rattle.qk_meaning.specs.Execution.{props_become}
 use Rattle.qk_meaning.specs.Laws_of_changes.{Unlogged_same, Logs_all, log_of_change, log_of_props, UnloggedIsSame}
-use Rattle.qk_meaning.proofs.Changed.{text_is, not_is, found_past, found_here, has_past, has_none, none_found, replaced_count, inserted_count, without_count, without_none}
+use Rattle.qk_meaning.proofs.Changed.{text_is, found_past, found_here, has_past, none_found, inserted_count, without_count, without_none}
 use Rattle.qk_meaning.proofs.Sames.{text_self, number_self, same_as_itself}
 
 -- ---- what isn't in a list
@@ -441,8 +441,8 @@ module _ (captures : Site → List Text) where
       props_property name h =
           subst (λ o. same captures (value_at name old) (or_undefined o) ≡ true) (sym (after_found name))
           (by_found (found name old) (found name given)
-              (λ n t. not_changed (λ k. not (has_field k given)) old old given name (none_front (at name) first (second ++ third) h) (ap not (has_is name given ∙ n)) (has_is name old ∙ t))
-              (λ t. not_changed (λ k. true) given old given name (none_front (at name) second third (none_back (at name) first (second ++ third) h)) refl (has_is name given ∙ t)))
+          (λ n t. not_changed (λ k. not (has_field k given)) old old given name (none_front (at name) first (second ++ third) h) (ap not (has_is name given ∙ n)) (has_is name old ∙ t))
+          (λ t. not_changed (λ k. true) given old given name (none_front (at name) second third (none_back (at name) first (second ++ third) h)) refl (has_is name given ∙ t)))
 
       kept_listing : (xs : Fields) → lacks_some xs given ≡ false → names_of (kept_fields (same captures) xs given) ≡ names_of xs
       kept_listing end h = refl

@@ -19,15 +19,13 @@ use Rattle.qk_meaning.specs.Setting.{setting_of, captures}
 use Rattle.qk_meaning.specs.Evaluation.{inside, entering}
 use Rattle.qk_meaning.specs.Laws_of_code.{Adds}
 use Rattle.qk_meaning.specs.Expansion.{Met, Nodes, expand_app}
-use Rattle.qk_meaning.specs.Props.{props_log}
 use Rattle.qk_meaning.specs.Session.{Session, runs}
-use Rattle.qk_meaning.specs.Execution.{function_of, Execution, made_hooks, fields_of, props_become, finished, stands, execution, mount, props_set, run_again}
+use Rattle.qk_meaning.specs.Execution.{function_of, Execution, made_hooks, finished, stands, execution, mount, props_set, run_again}
 use Rattle.qk_meaning.specs.Settling.{pass}
 use Rattle.qk_needed.specs.Needed.{called_if_needed, keep_or_run, kept_or_mounted, keep_or_mount, isn't_stale, needed}
 use Rattle.qk_needed.specs.Laws.{keeping, QuietPasses}
 use Rattle.qk_meaning.proofs.Running_laws.{hook_laws}
 use Rattle.qk_meaning.proofs.Meanings as Meanings
-use Rattle.qk_meaning.proofs.Session_laws.{props_kept}
 use Rattle.qk_meaning.proofs.Growth as Growth
 use Rattle.qk_meaning.proofs.Growth.{Adding}
 use Rattle.qk_needed.proofs.Found.{found_in}

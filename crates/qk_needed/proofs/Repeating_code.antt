@@ -542,7 +542,7 @@ module _ (outer : List ℕ) (G H : List Object) (K : Relation) (laws : Laws oute
       (◌>>=◌ (answered (keys_in H (Ref a))) (λ keys. ◌>>◌ (locations_read keys.1) (made_list there (as_values keys.0))))
   made_names a true m =
       subst (λ c. K Shared Value (◌>>=◌ (answered (object_keys a (object_at G a))) (λ keys. ◌>>◌ (locations_read keys.1) (made_list here (as_values keys.0))))
-          (◌>>=◌ (answered (elim c as (λ x. Answer (List Text × List Loc)) [ true ↦ object_keys a (object_at H a) | false ↦ Fails TypeMismatch ])) (λ keys. ◌>>◌ (locations_read keys.1) (made_list there (as_values keys.0))))) (sym (kinds a m).0)
+      (◌>>=◌ (answered (elim c as (λ x. Answer (List Text × List Loc)) [ true ↦ object_keys a (object_at H a) | false ↦ Fails TypeMismatch ])) (λ keys. ◌>>◌ (locations_read keys.1) (made_list there (as_values keys.0))))) (sym (kinds a m).0)
       (names_lem a (object_at G a) (object_at H a) refl refl (kinds a m).1)
   made_names a false m = stops _ _
 

@@ -1,9 +1,8 @@
 -- What was read decides a value: words for two evaluations of the same function with the same arguments in two heaps.
-use Rattle.std.specs.Prelude.{ℕ, true, false, List, [], ◌∷◌, ◌++◌, length, ⊤, ◌≡◌}
+use Rattle.std.specs.Prelude.{ℕ, true, false, List, [], ◌∷◌, ◌++◌, ⊤, ◌≡◌}
 use Rattle.qk_meaning.specs.Value.{Text, Value}
-use Rattle.qk_meaning.specs.World.{Object, Plain, Array, Signal, Computed, Props, Key, Keys, Length, Index, Prop, Loc}
+use Rattle.qk_meaning.specs.World.{Object, Plain, Array, Signal, Computed, Props, Loc}
 use Rattle.qk_meaning.specs.Heap.{is_made, object_at}
-use Rattle.qk_meaning.specs.Parts.{listed, nth, value_at, names_of}
 use Rattle.qk_meaning.specs.Standing.{stands_at}
 use Rattle.qk_meaning.specs.Program.{Program}
 use Rattle.qk_meaning.specs.Doing.{Outcome, Gives, Stops, Faults, Ends}
