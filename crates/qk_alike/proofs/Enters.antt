@@ -49,13 +49,13 @@ module _ {t : Ties} (apart : Apart t) {b : Start} {K : Relation} (laws : Laws t 
   enters_with mode rr (closure {site = site} {f = f} {g = g} l p q h) hs = codes_enter mode (programs.sites site l) (both_sites l) rr (kept_scopes f g p q h) hs
   enters_with {r} mode {running} {running'} {all = all} {all' = all'} rr (by_symbol {site = site} {f = f} {v = v} {hidden = hidden} l p h) hs =
       subst (λ names. K r _ _ (Stands t) (entered_with P computed enter mode running (Closure site f hidden) all)
-      (entered (Of_symbol (t.symbol site)) (Q.lifted (t.symbol site)) (setting_of Q computed enter' mode running' (Q.lifted (t.symbol site))) (zipped names (listed v)) all')) (sym (programs.lifted_captures site l))
+      (entered (Of_symbol (t.sites.symbol site)) (Q.lifted (t.sites.symbol site)) (setting_of Q computed enter' mode running' (Q.lifted (t.sites.symbol site))) (zipped names (listed v)) all')) (sym (programs.lifted_captures site l))
       (codes_enter mode (programs.lifts site l) (site_and_symbol l) rr (captured_scopes f v p h) hs)
   enters_with {r} mode {running} {running'} {all = all} {all' = all'} rr (lifted {symbol = symbol} {v = v} {w = v'} {hidden = hidden} e n h) hs =
       subst (λ names. K r _ _ (Stands t) (entered (Of_symbol symbol) (P.lifted symbol) (setting_of P computed enter mode running (P.lifted symbol)) (zipped names (listed v)) all) (entered_with Q computed enter' mode running' (Lifted symbol v' hidden) all')) (sym (programs.taken e symbol).0)
-      (subst (λ names. K r _ _ (Stands t) (entered (Of_symbol symbol) (P.lifted symbol) (setting_of P computed enter mode running (P.lifted symbol)) (zipped (t.taken symbol) (listed v)) all)
+      (subst (λ names. K r _ _ (Stands t) (entered (Of_symbol symbol) (P.lifted symbol) (setting_of P computed enter mode running (P.lifted symbol)) (zipped (t.sites.taken symbol) (listed v)) all)
       (entered (Of_symbol symbol) (Q.lifted symbol) (setting_of Q computed enter' mode running' (Q.lifted symbol)) (zipped names (listed v')) all')) (sym (programs.taken e symbol).1)
-      (codes_enter mode (programs.symbols e symbol).1 (both_symbols e) rr (taken_scopes (t.taken symbol) v v' n h) hs))
+      (codes_enter mode (programs.symbols e symbol).1 (both_symbols e) rr (taken_scopes (t.sites.taken symbol) v v' n h) hs))
   enters_with mode rr undefined hs = S.faults laws _
   enters_with mode rr null hs = S.faults laws _
   enters_with mode rr truth hs = S.faults laws _

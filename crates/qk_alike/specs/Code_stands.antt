@@ -59,7 +59,7 @@ made_by (a_qrl {symbol = symbol} {names = names} m call) scope = Lifted symbol (
 
 pub data Tags_stand (P Q : Program) (t : Ties) (file file' : Text) : Tag → Tag → Type 0 where
   element_tags : {tag : Text} → Tags_stand P Q t file file' (Tag.Element tag) (Tag.Element tag)
-  component_tags : {name : Text} → Shown_as t (root_shown (P.root file name)) (root_shown (Q.root file' name)) → Tags_stand P Q t file file' (Tag.Component name) (Tag.Component name)
+  component_tags : {name : Text} → Shown_as t.sites (root_shown (P.root file name)) (root_shown (Q.root file' name)) → Tags_stand P Q t file file' (Tag.Component name) (Tag.Component name)
   fragment_tags : Tags_stand P Q t file file' Tag.Fragment Tag.Fragment
 
 mutual
@@ -170,11 +170,11 @@ seen code free = elim (has_tracker code) [ true ↦ codes "track" ∷ free | fal
 
 -- two programs whose functions stand for one another
 pub record Programs_stand (P Q : Program) (t : Ties) : Type 0 where
-  pub captures : (site : Site) → (P.code site).captures ≡ t.captures site
-  pub other_captures : (site : Site) → t.stays site ≡ true → (Q.code (t.other site)).captures ≡ t.captures site
-  pub sites : (site : Site) → t.stays site ≡ true → Codes_stand P Q t (seen (P.code site) (t.free site)) (t.captures site) (P.code site) (Q.code (t.other site))
-  pub lifts : (site : Site) → t.lifts site ≡ true → Codes_stand P Q t (seen (P.code site) (t.free site)) (t.captures site) (P.code site) (Q.lifted (t.symbol site))
-  pub lifted_captures : (site : Site) → t.lifts site ≡ true → (Q.lifted (t.symbol site)).captures ≡ t.captures site
+  pub captures : (site : Site) → (P.code site).captures ≡ t.sites.captures site
+  pub other_captures : (site : Site) → t.sites.stays site ≡ true → (Q.code (t.sites.other site)).captures ≡ t.sites.captures site
+  pub sites : (site : Site) → t.sites.stays site ≡ true → Codes_stand P Q t (seen (P.code site) (t.sites.free site)) (t.sites.captures site) (P.code site) (Q.code (t.sites.other site))
+  pub lifts : (site : Site) → t.sites.lifts site ≡ true → Codes_stand P Q t (seen (P.code site) (t.sites.free site)) (t.sites.captures site) (P.code site) (Q.lifted (t.sites.symbol site))
+  pub lifted_captures : (site : Site) → t.sites.lifts site ≡ true → (Q.lifted (t.sites.symbol site)).captures ≡ t.sites.captures site
   -- the functions of symbols, where both sides have them
-  pub symbols : t.symbols ≡ true → (symbol : Text) → (free : List Text) × Codes_stand P Q t (seen (P.lifted symbol) free) (t.taken symbol) (P.lifted symbol) (Q.lifted symbol)
-  pub taken : t.symbols ≡ true → (symbol : Text) → ((P.lifted symbol).captures ≡ t.taken symbol) × ((Q.lifted symbol).captures ≡ t.taken symbol)
+  pub symbols : t.sites.symbols ≡ true → (symbol : Text) → (free : List Text) × Codes_stand P Q t (seen (P.lifted symbol) free) (t.sites.taken symbol) (P.lifted symbol) (Q.lifted symbol)
+  pub taken : t.sites.symbols ≡ true → (symbol : Text) → ((P.lifted symbol).captures ≡ t.sites.taken symbol) × ((Q.lifted symbol).captures ≡ t.sites.taken symbol)

@@ -34,7 +34,7 @@ Framework_alike t a b = Found_callees t (looked_up a framework_callees) (looked_
 pub data Roots_stand (t : Ties) : Root → Root → Type 0 where
   framework : {a b : Text} → Framework_alike t a b → Roots_stand t (Framework a) (Framework b)
   holds : {v w : Value} → Stands t v w → Roots_stand t (Holds v) (Holds w)
-  shows : {x y : Shown} → Shown_as t x y → Roots_stand t (Shows x) (Shows y)
+  shows : {x y : Shown} → Shown_as t.sites x y → Roots_stand t (Shows x) (Shows y)
   unknown : Roots_stand t Unknown Unknown
 
 pub data References_stand (t : Ties) (r : Reach) : Reference → Reference → Type 0 where

@@ -26,7 +26,7 @@ use Rattle.qk_built_alike.specs.Laws.{AcceptedBuiltEventsAgree, AcceptedBuiltScr
 use Rattle.qk_built_alike.proofs.Accepted_built.{rules}
 use Rattle.qk_built_alike.proofs.Programs.{programs}
 
-names_alike : (modules : List Named_module) (pairing : Pairing) → Named_alike (built_ties modules pairing)
+names_alike : (modules : List Named_module) (pairing : Pairing) → Named_alike (built_ties modules pairing).sites
 names_alike modules pairing = record { lifted = λ s h. refl }
 
 pub accepted_built_events_agree : SymbolsAreSites → AcceptedBuiltEventsAgree

@@ -57,7 +57,7 @@ module _ (modules : List Named_module) (accepted : Accepted modules) (pairing : 
 pub accepted_agree : AcceptedAgree
 accepted_agree modules accepted pairing one b computed alike = scopes_agree modules lifts_in_source stays_in_source pairing b computed (rules modules accepted pairing one) alike
 
-shown_alike : (t : Ties) (r : Root) → Roots_stand t r (lifted_root r) → Shown_as t (root_shown r) (lifted_shown (root_shown r))
+shown_alike : (t : Ties) (r : Root) → Roots_stand t r (lifted_root r) → Shown_as t.sites (root_shown r) (lifted_shown (root_shown r))
 shown_alike t (Framework name) h = a_fragment
 shown_alike t (Holds v) h = a_fragment
 shown_alike t Unknown h = a_fragment
@@ -68,7 +68,7 @@ accepted_apps_stand modules accepted pairing = shown_alike (source_ties modules 
 
 -- ---- sessions
 
-names_alike : (modules : List Named_module) (pairing : Pairing) → Named_alike (source_ties modules lifts_in_source stays_in_source pairing)
+names_alike : (modules : List Named_module) (pairing : Pairing) → Named_alike (source_ties modules lifts_in_source stays_in_source pairing).sites
 names_alike modules pairing = record { lifted = λ s h. refl }
 
 pub accepted_events_agree : AcceptedEventsAgree

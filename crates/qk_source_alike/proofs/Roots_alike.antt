@@ -114,7 +114,7 @@ module _ (modules : List Named_module) (accepted : Accepted modules) (pairing : 
         nothing : captures_of (arrow_of modules (site_of modules file a.place)) ≡ []
         nothing = ap captures_of f.itself ∙ none_captured a e
 
-        fits : Fits t (site_of modules file a.place) end
+        fits : Fits t.sites (site_of modules file a.place) end
         fits name k = sym (ap (is_listed name) nothing)
 
     called_stands : (callee : Text) {m : _} (links : Row_of-Link m) → (same_text callee (codes "component$") ≡ true → Alike (Shows (Component (site_of modules file (place_of (first_argument links)))))) → (same_text callee (codes "component$") ≡ false → same_text callee (codes "componentQrl") ≡ true → ⊥) →

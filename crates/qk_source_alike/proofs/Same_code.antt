@@ -108,7 +108,7 @@ deepens_scope r names scope h x e =
     go true k = refl
     go false k = h x k
 
-shown_roots : (P Q : Program) {t : Ties} {x y : Root} → Roots_stand t x y → Shown_as t (root_shown x) (root_shown y)
+shown_roots : (P Q : Program) {t : Ties} {x y : Root} → Roots_stand t x y → Shown_as t.sites (root_shown x) (root_shown y)
 shown_roots P Q (framework h) = a_fragment
 shown_roots P Q (holds h) = a_fragment
 shown_roots P Q (shows h) = h

@@ -50,7 +50,7 @@ module _ (modules : List Named_module) (lifts stays : Site → Bool) (pairing : 
   abbrev t : Ties
   t = source_ties modules lifts stays pairing
 
-  fit : (s : Site) (a : Found_arrow) → arrow_of modules s ≡ a → (f : Fields) → ((x : Text) → is_listed x (free_of a) ≡ true → has_field x f ≡ is_listed x (captures_of a)) → Fits t s f
+  fit : (s : Site) (a : Found_arrow) → arrow_of modules s ≡ a → (f : Fields) → ((x : Text) → is_listed x (free_of a) ≡ true → has_field x f ≡ is_listed x (captures_of a)) → Fits t.sites s f
   fit s a e f h x k = h x (subst (λ z. is_listed x (free_of z) ≡ true) e k) ∙ ap (λ z. is_listed x (captures_of z)) (sym e)
 
   made : (file : Text) (a : Found_arrow) (r : Reach) → Found_at modules lifts stays file a → Reaches r (free_of a) → ((x : Text) → is_listed x (free_of a) ≡ true → is_listed x a.scope ≡ is_local r x) →
