@@ -23,7 +23,7 @@ use Rattle.qk_alike.proofs.Steps as S
 use Rattle.qk_alike.proofs.Referred.{all_bound_lem}
 use Rattle.qk_alike.proofs.Code_runs.{bodies}
 
-module _ {t : Ties} (apart : Apart t) {b : Start} {K : Relation} (laws : Laws t b K) (P Q : Program) (programs : C.Programs_stand P Q t) (facts : Facts t (captures_in P) (captures_in Q)) (computed : Computed_reading) (computeds : Computings_stand t K computed) (enter enter' : Entering) (entering : Enterings_stand t K enter enter') where
+module _ {t : Ties} (apart : Apart t) {b : Start} {K : Relation} (laws : Laws t b K) (P Q : Program) (programs : C.Programs_stand P Q t.sites) (facts : Facts t (captures_in P) (captures_in Q)) (computed : Computed_reading) (computeds : Computings_stand t K computed) (enter enter' : Entering) (entering : Enterings_stand t K enter enter') where
   open laws use {gives, bind, turn, notes, withins}
 
   parameters : {r : Reach} {here here' : Setting} (code code' : Code) {all all' : List Value} → Settings_stand t b K here here' → code.params ≡ code'.params → Pairwise (Stands t) all all' →
@@ -32,7 +32,7 @@ module _ {t : Ties} (apart : Apart t) {b : Start} {K : Relation} (laws : Laws t 
       S.choose laws w.tracks (gives done) (subst (λ x. K r _ _ Done (all_bound here code.params all) (all_bound here' x all')) p (all_bound_lem w code.params hs))
 
   codes_enter : {r : Reach} (mode : Mode) {running running' : List ℕ} {code code' : Code} {free captured : List Text} {x x' : Which} {f g : Fields} {all all' : List Value} →
-      C.Codes_stand P Q t (C.seen code free) captured code code' → Whichs_stand t x x' → Pairwise (Paired t.pairing) running running' → Scopes_stand t free captured f g → Pairwise (Stands t) all all' →
+      C.Codes_stand P Q t.sites (C.seen code free) captured code code' → Whichs_stand t x x' → Pairwise (Paired t.pairing) running running' → Scopes_stand t free captured f g → Pairwise (Stands t) all all' →
       K r _ _ (Stands t) (entered x code (setting_of P computed enter mode running code) f all) (entered x' code' (setting_of Q computed enter' mode running' code') g all')
   codes_enter mode {running} {running'} {code} {code'} {free} {captured} {f = f} {g = g} c xx rr sc hs =
       bind turn (λ x y d. bind (notes (both_entered xx)) (λ x y d. withins (C.reach_of code (C.seen code free) captured) names (bind (parameters code code' w c.params hs) (λ x y d. bodies apart w c.bodies))))

@@ -49,6 +49,9 @@ pub record Ties : Type 0 where
   pub sites : Site_ties
   pub pairing : Pairing
 
+abbrev pub ties_over : Site_ties → Pairing → Ties
+ties_over sites pairing = record { sites = sites; pairing = pairing }
+
 -- the scope has those of the arrow's names that the arrow captures, and no other of them
 abbrev pub Fits : Site_ties → Site → Fields → Type 0
 Fits t site scope = (name : Text) → is_listed name (t.free site) ≡ true → has_field name scope ≡ is_listed name (t.captures site)

@@ -172,7 +172,7 @@ given_text (Some w) = words
 records_stand : {t : Ties} (e : Event) → Pairwise (Stands t) (records_of e) (records_of e)
 records_stand e = one_more (fields (field_stands words (field_stands (given_text e.value) end_stands))) (one_more (fields (field_stands words (field_stands (given_text e.value) end_stands))) no_more)
 
-module _ (t : Ties) (P Q : Program) (apart : Apart t) (programs : Programs_stand P Q t) (named : Named_alike t.sites) (app : Shown_as t.sites P.app Q.app) (levels : ℕ) (b : Start) where
+module _ (t : Ties) (P Q : Program) (apart : Apart t) (programs : Programs_stand P Q t.sites) (named : Named_alike t.sites) (app : Shown_as t.sites P.app Q.app) (levels : ℕ) (b : Start) where
   agreeing : Sames_agree t (same (captures_in P)) (same (captures_in Q))
   agreeing = subst (λ c. Sames_agree t (same c) (same (captures_in Q))) (λ i site. sym (programs.captures site) i) (record { agree = λ h k. sames t apart (captures_in Q) programs.other_captures h k })
 

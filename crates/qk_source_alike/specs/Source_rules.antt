@@ -43,7 +43,7 @@ pub record Source_rules (modules : List Named_module) (lifts stays : Site → Bo
   -- a task's parameters are none or `{ track }`
   pub tracks : (site : Site) → has_tracker (code_of modules site) ≡ true → patterns_names (arrow_of modules site).params ≡ codes "track" ∷ []
   -- root arrows capture nothing, components are dollar sites, and no name means `qrl`
-  pub roots : (file name : Text) → Roots_stand (source_ties modules lifts stays pairing) (root_of modules file name) (lifted_root (root_of modules file name))
+  pub roots : (file name : Text) → Roots_stand (source_sites modules lifts stays) (root_of modules file name) (lifted_root (root_of modules file name))
   -- a symbol names one site
   pub lifted : (site : Site) → lifts site ≡ true → code_of modules (site_spelled (symbol_of site)) ≡ code_of modules site
   -- sites and symbols stand one to one, and so do addresses
