@@ -61,7 +61,7 @@ module _ (p : Program) (levels : ℕ) (page : Page) (app : p.app ≡ Component p
   run_in v log lines turns trace hooking = record { heap = Props end ∷ rest v; log = log; lines = lines; turns = turns; trace = trace; locals = end; hooking = hooking; kept = [] }
 
   abbrev pub stood : Value → List Read → Instance
-  stood w reads = record { path = []; component = Closure component end false; props = 0; hooks = hooks; view = w; reads = reads }
+  stood w reads = record { path = []; component = Component component; props = 0; hooks = hooks; view = w; reads = reads }
 
   -- a component whose view is this is expanded to its nodes
   expands : {S : Type 0} (visit : Visit S) (v : ℤ) (s t : S)

@@ -16,7 +16,7 @@ use Rattle.qk_meaning.specs.Running.{Running, Mounting, Again, made_at}
 use Rattle.qk_meaning.specs.Setting.{called_anew}
 use Rattle.qk_meaning.specs.Expansion.{Node, Tagged, Inside, Nodes, node, no_nodes, Placed, Given, nothing_given, children_of, placed, for_slot, step_name, further, Met, Visit, Expands, in_order, joined, wrapped, view_with, takes_step, leaf, slot_with, component_with, elem_with, item_with, expand_item, expand_app}
 use Rattle.qk_meaning.specs.Session.{Session, runs}
-use Rattle.qk_meaning.specs.Execution.{Execution, function_of, stands, execution, mount, props_set, run_again, taken, take_or_mount}
+use Rattle.qk_meaning.specs.Execution.{Execution, stands, execution, mount, props_set, run_again, taken, take_or_mount}
 use Rattle.qk_meaning.specs.Tree.{view_of, view_at, nodes_given}
 use Rattle.qk_meaning.specs.Laws as Laws
 use Rattle.qk_meaning.specs.Laws.{Each_first, none_left, one_first}
@@ -203,7 +203,7 @@ module _ (program : Program) (levels : ℕ) (all : List Instance) where
       (λ props. behind_runs (execution program called_anew levels (Mounting met.path w.executed []) met.shown props) (λ e. stands true (new props e)) (view_at all met) (λ e. stand true (new props e) met refl)) w
     where
       new : ℕ → Execution → Instance
-      new props e = record { path = met.path; component = function_of met.shown; props = props; hooks = e.hooks; view = e.view; reads = e.reads }
+      new props e = record { path = met.path; component = met.shown; props = props; hooks = e.hooks; view = e.view; reads = e.reads }
 
   runs_again : (i : Instance) (met : Met) → i.path ≡ met.path → Tracks all Value (run_again program called_anew levels i met) (view_at all met)
   runs_again i met e =

@@ -1,6 +1,6 @@
 -- Small rows, one for each wrong definition that is planted in must-fail/; the worked examples stand in a crate of their own.
 use Rattle.std.specs.Prelude.{◌≡◌, refl, pos, true, false, [], ◌∷◌, codes, Some}
-use Rattle.qk_meaning.specs.Value.{Value, Fields, Undefined, Int, Words, Ref, Closure, end, field}
+use Rattle.qk_meaning.specs.Value.{Value, Fields, Undefined, Fragment, Int, Words, Ref, Closure, end, field}
 use Rattle.qk_meaning.specs.World.{Signal, Prop, Tasked, Instance}
 use Rattle.qk_meaning.specs.Fault.{RenderWrite, NoProperty, TypeMismatch}
 use Rattle.qk_meaning.specs.Operators.{Fails}
@@ -46,7 +46,7 @@ tracks_written = refl
 
 -- a pause names the first place of a plain function: here the second instance
 abbrev showing : Value → Instance
-showing v = record { path = []; component = Undefined; props = 0; hooks = []; view = v; reads = [] }
+showing v = record { path = []; component = Fragment; props = 0; hooks = []; view = v; reads = [] }
 
 abbrev plain_function : Value
 plain_function = Closure (record { file = codes "root"; number = 1; dollar = false }) end false

@@ -223,7 +223,7 @@ module _ (program : Program) (levels : ℕ) where
 
   mount_takes : (met : Met) → Takes left_over Value (mount program called_anew levels met)
   mount_takes met =
-      let new : ℕ → Execution → Instance = λ props e. record { path = met.path; component = function_of met.shown; props = props; hooks = e.hooks; view = e.view; reads = e.reads } in
+      let new : ℕ → Execution → Instance = λ props e. record { path = met.path; component = met.shown; props = props; hooks = e.hooks; view = e.view; reads = e.reads } in
       let executes : List Instance → ℕ → Doing Session Execution = λ before props. runs (execution program called_anew levels (Mounting met.path before []) met.shown props) in
       takes_then left_over (asked (λ w. w.executed)) (λ before. ◌>>=◌ (runs (made_at (Props met.fields))) (λ props. ◌>>=◌ (executes before props) (λ e. stands true (new props e)))) (λ w. omega arith)
       (λ before. takes_then left_over (runs (made_at (Props met.fields))) (λ props. ◌>>=◌ (executes before props) (λ e. stands true (new props e)))

@@ -8,7 +8,7 @@ use Rattle.qk_meaning.specs.Places.{same_location}
 use Rattle.qk_meaning.specs.Heap.{object_at}
 use Rattle.qk_meaning.specs.Trace.{locs_of}
 use Rattle.qk_meaning.specs.Settling.{is_due}
-use Rattle.qk_meaning.specs.Ties.{Ties, Paired, Stands, Pairwise, Object_stands, Loc_stands}
+use Rattle.qk_meaning.specs.Ties.{Ties, Paired, Shown_as, Stands, Pairwise, Object_stands, Loc_stands}
 
 -- objects at paired addresses stand for one another, and those to come will be pairs
 pub record Heaps_stand (t : Ties) (heap heap' : List Object) : Type 0 where
@@ -58,7 +58,7 @@ pub data Hooks_stand (t : Ties) (b : Start) : Hook → Hook → Type 0 where
 -- instances of one path that stand for one another in all their parts
 pub record Instances_stand (t : Ties) (b : Start) (i j : Instance) : Type 0 where
   pub path : i.path ≡ j.path
-  pub component : Stands t i.component j.component
+  pub component : Shown_as t.sites i.component j.component
   pub props : Paired t.pairing i.props j.props
   pub hooks : Pairwise (Hooks_stand t b) i.hooks j.hooks
   pub view : Stands t i.view j.view

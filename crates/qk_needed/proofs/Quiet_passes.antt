@@ -202,7 +202,7 @@ module _ (program : Program) (levels : ℕ) where
       s0 = record (w.running) { heap = w.running.heap ++ (Props met.fields ∷ []) }
 
       go : (x : Outcome Running Execution) → Enters_left w.running.trace x
-          → Beside_left w (after (put_back (λ s. record w { running = s }) x) (λ e. stands true (record { path = met.path; component = function_of met.shown; props = length w.running.heap; hooks = e.hooks; view = e.view; reads = e.reads }))) o
+          → Beside_left w (after (put_back (λ s. record w { running = s }) x) (λ e. stands true (record { path = met.path; component = met.shown; props = length w.running.heap; hooks = e.hooks; view = e.view; reads = e.reads }))) o
       go (Stops why u) g = tt
       go (Gives e u) g = record { grows = enters_longer w.running.trace u.trace g; mounted_stays = λ e. or_true w.mounted; alike = mounts_one (or_true w.mounted) }
 

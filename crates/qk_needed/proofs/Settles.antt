@@ -171,7 +171,7 @@ module _ (log0 : List Loc) where
     mount_fine met w = go (execution program computed levels (Mounting met.path w.executed []) met.shown (length w.running.heap) (record (w.running) { heap = w.running.heap ++ (Props met.fields ∷ []) }))
       where
         go : (o : Outcome Running Execution)
-            → Fine_left log0 (after (put_back (λ s. record w { running = s }) o) (λ e. stands true (record { path = met.path; component = function_of met.shown; props = length w.running.heap; hooks = e.hooks; view = e.view; reads = e.reads })))
+            → Fine_left log0 (after (put_back (λ s. record w { running = s }) o) (λ e. stands true (record { path = met.path; component = met.shown; props = length w.running.heap; hooks = e.hooks; view = e.view; reads = e.reads })))
         go (Stops why u) = tt
         go (Gives e u) = has_mounted (or_true w.mounted)
 

@@ -14,6 +14,7 @@ use Rattle.qk_meaning.specs.Setting.{called_anew}
 use Rattle.qk_meaning.specs.Trace.{locs_of, own_reads, entries}
 use Rattle.qk_meaning.specs.Evaluation.{entering}
 use Rattle.qk_meaning.specs.Expansion.{Nodes}
+use Rattle.qk_meaning.specs.Execution.{function_of}
 use Rattle.qk_meaning.specs.Manner.{Manner, whole}
 use Rattle.qk_meaning.specs.Session.{Session, world_of}
 use Rattle.qk_meaning.specs.Settling.{first_due, pass, settled}
@@ -112,7 +113,7 @@ Sound_hooks program n (h ∷ rest) = Sound_hook program n h × Sound_hooks progr
 
 abbrev pub Sound_instances : Program → ℕ → List Instance → Type 0
 Sound_instances program n [] = ⊤
-Sound_instances program n (i ∷ rest) = (i.props < n) × (Sound_value program n i.component × (Sound_hooks program n i.hooks × (Sound_value program n i.view × Sound_instances program n rest)))
+Sound_instances program n (i ∷ rest) = (i.props < n) × (Sound_value program n (function_of i.component) × (Sound_hooks program n i.hooks × (Sound_value program n i.view × Sound_instances program n rest)))
 
 pub record Sound (program : Program) (w : World) : Type 0 where
   pub heap : (a : ℕ) → Sound_object program (length w.heap) (object_at w.heap a)
@@ -164,7 +165,7 @@ Executed_so hooks (Again left) = left ≡ hooks
 Executed_so hooks (Told answers) = ⊥
 
 abbrev pub Right_view : Program → List Object → List Loc → Instance → Type 0
-Right_view program heap log i = Right_call program heap log i.component (Ref i.props ∷ []) (Executed_so i.hooks) i.view (locs_of i.reads)
+Right_view program heap log i = Right_call program heap log (function_of i.component) (Ref i.props ∷ []) (Executed_so i.hooks) i.view (locs_of i.reads)
 
 abbrev pub Views_right : Program → List Object → List Loc → List Instance → Type 0
 Views_right program heap log [] = ⊤

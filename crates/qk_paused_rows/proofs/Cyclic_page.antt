@@ -7,7 +7,7 @@ use Rattle.qk_meaning_rows.proofs.Cyclic_store.{script, built as files, tasks, p
 use Rattle.qk_meaning_rows.specs.Common.{built, lines_of}
 use Rattle.qk_paused.specs.Entries.{App_index, A_store, A_task}
 use Rattle.qk_paused.specs.Fits.{fits}
-use Rattle.qk_paused_rows.proofs.Words.{last_state, last_script, printed_resuming, told}
+use Rattle.qk_paused_rows.specs.Words.{last_state, last_script, printed_resuming, told}
 
 abbrev program : Program
 program = built tasks files

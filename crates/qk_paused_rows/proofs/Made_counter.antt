@@ -7,7 +7,7 @@ use Rattle.qk_meaning.specs.Readings.{program_of}
 use Rattle.qk_meaning.specs.Walk.{seen_at}
 use Rattle.qk_meaning_rows.specs.Clicked_counter.{modules}
 use Rattle.qk_paused.specs.Sound.{Each_made, none_met, address_met, Made}
-use Rattle.qk_paused_rows.proofs.Words.{last_world}
+use Rattle.qk_paused_rows.specs.Words.{last_world}
 
 abbrev program : Program
 program = program_of modules

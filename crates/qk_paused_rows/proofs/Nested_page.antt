@@ -4,7 +4,7 @@ use Rattle.qk_meaning.specs.Program.{Program}
 use Rattle.qk_meaning.specs.Page.{page}
 use Rattle.qk_meaning_rows.proofs.Nested_dollar_functions.{script, built as files, tasks, page_shown}
 use Rattle.qk_meaning_rows.specs.Common.{built, usual, printed_built}
-use Rattle.qk_paused_rows.proofs.Words.{last_state, printed_resuming}
+use Rattle.qk_paused_rows.specs.Words.{last_state, printed_resuming}
 
 abbrev program : Program
 program = built tasks files

@@ -24,7 +24,7 @@ use Rattle.qk_alike.proofs.Told.{tasks_alike}
 use Rattle.qk_session_alike.specs.Trees_stand.{Nodes_stand, Met_stand, met_alike, Named_alike}
 use Rattle.qk_session_alike.proofs.Expanded.{Visits_stand, apps_expand}
 use Rattle.qk_session_alike.proofs.Props_set.{Sames_agree}
-use Rattle.qk_session_alike.proofs.Executed.{Asks_more, functions_stand, execution_lem, props_set_lem}
+use Rattle.qk_session_alike.proofs.Executed.{Asks_more, execution_lem, props_set_lem}
 use Rattle.qk_session_alike.proofs.Sessions_kept.{Session_relation, Session_laws, Dues_stand, none_due, both_due}
 
 -- instances of one path are found alike
@@ -41,7 +41,7 @@ found_alike path no_more = none_found
 found_alike {t} {b} path (one_more {a = i} {b = j} {rest = all} {more = all'} h hs) =
     subst (λ p. Instance_found t b (find (λ i. same_path i.path path) (i ∷ all)) (cond (same_path p path) (Some j) (find (λ i. same_path i.path path) all'))) h.path (found_or (same_path i.path path) h (found_alike path hs))
 
-module _ {t : Ties} (apart : Apart t) (named : Named_alike t) {b : Start} (laws : Laws t b (Doings_stand t b)) (more : Asks_more t b (Doings_stand t b)) (P Q : Program) (computed : Computed_reading) (levels : ℕ)
+module _ {t : Ties} (apart : Apart t) (named : Named_alike t.sites) {b : Start} (laws : Laws t b (Doings_stand t b)) (more : Asks_more t b (Doings_stand t b)) (P Q : Program) (computed : Computed_reading) (levels : ℕ)
     (E : Enterings_stand t (Doings_stand t b) (entering P computed levels) (entering Q computed levels)) (sames : Sames_agree t (same (captures_in P)) (same (captures_in Q)))
     {K : Session_relation} (session : Session_laws t b K) where
   open session use {ran, log_lengths, turns_now, executed_now, instances_now, due_now, quiet_now, adds, begins, passes, puts}
@@ -55,7 +55,7 @@ module _ {t : Ties} (apart : Apart t) (named : Named_alike t) {b : Start} (laws 
   mount_lem : {m m' : Met} → Met_stand t m m' → K Value Value (Stands t) (mount P computed levels m) (mount Q computed levels m')
   mount_lem (met_alike {path = path} s f) =
       bind executed_now (λ all all' i. bind (ran (laws.makes (props f))) (λ p q k. bind (ran (execution_lem apart laws more P Q computed levels E sames (both_mounting {path = path} i no_more) s k)) (λ e e' h.
-      stands_lem true (record { path = refl {a = path}; component = functions_stand s; props = k; hooks = h.hooks; view = h.view; reads = h.reads }))))
+      stands_lem true (record { path = refl {a = path}; component = s; props = k; hooks = h.hooks; view = h.view; reads = h.reads }))))
 
   run_again_lem : {i j : Instance} → Instances_stand t b i j → {m m' : Met} → Met_stand t m m' → K Value Value (Stands t) (run_again P computed levels i m) (run_again Q computed levels j m')
   run_again_lem h (met_alike s f) = bind (ran (execution_lem apart laws more P Q computed levels E sames (both_again h.hooks) s h.props)) (λ e e' k.
@@ -82,7 +82,7 @@ module _ {t : Ties} (apart : Apart t) (named : Named_alike t) {b : Start} (laws 
   abbrev manner' : Manner
   manner' = record { program = Q; computed = computed; levels = levels; visit = take_or_mount Q computed levels }
 
-  module _ (app : Shown_as t P.app Q.app) where
+  module _ (app : Shown_as t.sites P.app Q.app) where
     pass_lem : K Nodes Nodes (Nodes_stand t) (pass manner) (pass manner')
     pass_lem = bind begins (λ x y d. bind (apps_expand named session.steps visits app) (λ v w h. bind passes (λ x y d. gives h)))
 

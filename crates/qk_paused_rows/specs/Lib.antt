@@ -1,0 +1,3 @@
+-- what the rows compare, and one row as a statement
+pub mod Words
+pub mod Paused_counter
