@@ -16,7 +16,7 @@ use Rattle.qk_alike.proofs.Objects.{all_facts}
 use Rattle.qk_alike.proofs.Keeping.{keeps, anew}
 use Rattle.qk_alike.proofs.Enters.{enters_with}
 
-module _ (t : Ties) (b : Start) (computed : Computed_reading) (P Q : Program) (apart : Apart t) (programs : Programs_stand P Q t) (alike : Computed_alike t b computed) where
+module _ (t : Ties) (b : Start) (computed : Computed_reading) (P Q : Program) (apart : Apart t) (programs : Programs_stand P Q t.sites) (alike : Computed_alike t b computed) where
   pub facts : Facts t (captures_in P) (captures_in Q)
   facts = subst (λ c. Facts t c (captures_in Q)) (λ i site. sym (programs.captures site) i) (all_facts t apart (captures_in Q) programs.other_captures)
 

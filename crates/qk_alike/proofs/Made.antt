@@ -49,21 +49,21 @@ module _ {t : Ties} {b : Start} {K : Relation} {here here' : Setting} (w : Setti
   records_made h =
       S.choose laws (ap any_forbidden (same_names h)) (S.faults laws _) (S.choose laws (ap (λ n. nat_le n 65536) (same_counts h)) (records_of_mode w.mode (facts.listing h)) (S.faults laws _))
 
-  shown_lem : {tag tag' : Tag} → C.Tags_stand here.program here'.program t here.file here'.file tag tag' → Shown_as t (shown_of here tag) (shown_of here' tag')
+  shown_lem : {tag tag' : Tag} → C.Tags_stand here.program here'.program t.sites here.file here'.file tag tag' → Shown_as t.sites (shown_of here tag) (shown_of here' tag')
   shown_lem C.element_tags = an_element
   shown_lem C.fragment_tags = a_fragment
   shown_lem (C.component_tags {name = name} h) = go (same_text name (codes "Slot"))
     where
-      go : (c : Bool) → Shown_as t (elim c as (λ x. Shown) [ true ↦ Slot [] | false ↦ root_shown (here.program.root here.file name) ]) (elim c as (λ x. Shown) [ true ↦ Slot [] | false ↦ root_shown (here'.program.root here'.file name) ])
+      go : (c : Bool) → Shown_as t.sites (elim c as (λ x. Shown) [ true ↦ Slot [] | false ↦ root_shown (here.program.root here.file name) ]) (elim c as (λ x. Shown) [ true ↦ Slot [] | false ↦ root_shown (here'.program.root here'.file name) ])
       go true = a_slot
       go false = h
 
-  pub made_markup_lem : {r : Reach} {tag tag' : Tag} {f g : Fields} {all all' : List Value} → C.Tags_stand here.program here'.program t here.file here'.file tag tag' → Fields_stand t f g → Pairwise (Stands t) all all' →
+  pub made_markup_lem : {r : Reach} {tag tag' : Tag} {f g : Fields} {all all' : List Value} → C.Tags_stand here.program here'.program t.sites here.file here'.file tag tag' → Fields_stand t f g → Pairwise (Stands t) all all' →
       K r _ _ (Stands t) (made_markup here tag f all) (made_markup here' tag' g all')
   made_markup_lem s h k = bind (S.unless_same laws (facts.markup_faults (shown_lem s) h (packs k))) (λ a b d. made_lem (facts.elements (shown_lem s) h (packs k)))
 
   -- a tag is told of before its attributes
-  pub tag_told_lem : {r : Reach} {tag tag' : Tag} → C.Tags_stand here.program here'.program t here.file here'.file tag tag' → K r _ _ Done (tag_told here tag) (tag_told here' tag')
+  pub tag_told_lem : {r : Reach} {tag tag' : Tag} → C.Tags_stand here.program here'.program t.sites here.file here'.file tag tag' → K r _ _ Done (tag_told here tag) (tag_told here' tag')
   tag_told_lem C.element_tags = gives done
   tag_told_lem C.fragment_tags = gives done
   tag_told_lem (C.component_tags {name = name} h) = S.choose laws {c = same_text name (codes "Slot")} refl (gives done) (notes both_used)

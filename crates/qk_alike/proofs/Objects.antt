@@ -14,7 +14,7 @@ use Rattle.qk_alike.proofs.Value_laws.{Facts, Keys_stand}
 use Rattle.qk_alike.proofs.Values.{weights, depths, truths, functions, texts, nullishes, joins, decided, name_keys, key_kinds, binaries, unaries, steps, truncates, marks}
 use Rattle.qk_alike.specs.Meanings_stand.{Both_answer, Becomings_stand, Reads_stand, both_become, both_found, both_run, both_stay, fails, is, not_there}
 use Rattle.qk_meaning.specs.Worlds_stand.{Heaps_stand}
-use Rattle.qk_meaning.specs.Ties.{props, All_stand, Apart, Fields_stand, Found_stands, Loc_stands, Object_stands, Paired, Pairwise, Shown_as, Stands, Ties, a_component, a_fragment, a_slot, a_symbol, an_element, array, both_none, both_some, computed, elem, end_stands, field_stands, fields, int, item_stands, items, located_alike, no_more, none_stand, one_more, own_symbol, plain, ref, signal, undefined, words}
+use Rattle.qk_meaning.specs.Ties.{props, All_stand, Apart, Fields_stand, Found_stands, Loc_stands, Object_stands, Paired, Pairwise, Shown_as, Site_ties, Stands, Ties, a_component, a_fragment, a_slot, a_symbol, an_element, array, both_none, both_some, computed, elem, end_stands, field_stands, fields, int, item_stands, items, located_alike, no_more, none_stand, one_more, own_symbol, plain, ref, signal, undefined, words}
 use Rattle.qk_ast.specs.Texts.{is_among, same_text, ends_in_dollar}
 use Rattle.qk_meaning.specs.Changes.{changed_in}
 use Rattle.qk_meaning.specs.Fault.{DuplicateKey, Fault, FixedWrite, IndexPastEnd, ListTooLong, NoProperty, NotCallable, NotText, RenderWrite, TypeMismatch}
@@ -314,23 +314,23 @@ module _ {t : Ties} where
       go (Name_is a) h = of_object a h
       go (Refused_as f) h = both_stay
 
-module _ (t : Ties) (apart : Apart t) (second : Site → List Text) (second_captures : (site : Site) → t.stays site ≡ true → second (t.other site) ≡ t.captures site) where
+module _ (t : Ties) (apart : Apart t) (second : Site → List Text) (second_captures : (site : Site) → t.sites.stays site ≡ true → second (t.sites.other site) ≡ t.sites.captures site) where
   -- ---- what a change logs
 
-  unless_sames : {v v' w w' : Value} (key : Key) → Stands t v v' → Stands t w w' → G.unless_same t.captures v w key ≡ G.unless_same second v' w' key
+  unless_sames : {v v' w w' : Value} (key : Key) → Stands t v v' → Stands t w w' → G.unless_same t.sites.captures v w key ≡ G.unless_same second v' w' key
   unless_sames key h k = ap (λ b. elim b as (λ x. List Key) [ true ↦ [] | false ↦ key ∷ [] ]) (sames t apart second second_captures h k)
 
-  changed_places : {all all' more more' : List Value} (n : ℕ) → Pairwise (Stands t) all all' → Pairwise (Stands t) more more' → G.changed_indexes t.captures n all more ≡ G.changed_indexes second n all' more'
+  changed_places : {all all' more more' : List Value} (n : ℕ) → Pairwise (Stands t) all all' → Pairwise (Stands t) more more' → G.changed_indexes t.sites.captures n all more ≡ G.changed_indexes second n all' more'
   changed_places n no_more no_more = refl
   changed_places n no_more (one_more k ks) = ap₂ ◌++◌ (unless_sames (Index n) undefined k) (changed_places (suc n) no_more ks)
   changed_places n (one_more h hs) no_more = ap₂ ◌++◌ (unless_sames (Index n) h undefined) (changed_places (suc n) hs no_more)
   changed_places n (one_more h hs) (one_more k ks) = ap₂ ◌++◌ (unless_sames (Index n) h k) (changed_places (suc n) hs ks)
 
-  changed_props : {f f' g g' : Fields} → Fields_stand t f f' → Fields_stand t g g' → G.changed_properties t.captures f g ≡ G.changed_properties second f' g'
+  changed_props : {f f' g g' : Fields} → Fields_stand t f f' → Fields_stand t g g' → G.changed_properties t.sites.captures f g ≡ G.changed_properties second f' g'
   changed_props end_stands k = refl
   changed_props (field_stands {k = n} h hs) k = ap₂ ◌++◌ (unless_sames (Prop n) h (field_values n k)) (changed_props hs k)
 
-  added_props : {f f' g g' : Fields} → Fields_stand t f f' → Fields_stand t g g' → G.added_properties t.captures f g ≡ G.added_properties second f' g'
+  added_props : {f f' g g' : Fields} → Fields_stand t f f' → Fields_stand t g g' → G.added_properties t.sites.captures f g ≡ G.added_properties second f' g'
   added_props h end_stands = refl
   added_props h (field_stands {k = n} k ks) =
       ap₂ ◌++◌ (ap₂ (λ b x. elim b as (λ y. List Key) [ true ↦ [] | false ↦ x ]) (fields_there n h) (unless_sames (Prop n) undefined k)) (added_props h ks)
@@ -338,7 +338,7 @@ module _ (t : Ties) (apart : Apart t) (second : Site → List Text) (second_capt
   counted : {m m' n n' : ℕ} (key : Key) → m ≡ m' → n ≡ n' → (elim (m == n) as (λ x. List Key) [ true ↦ [] | false ↦ key ∷ [] ]) ≡ (elim (m' == n') as (λ x. List Key) [ true ↦ [] | false ↦ key ∷ [] ])
   counted key p q = λ i. elim (p i == q i) as (λ x. List Key) [ true ↦ [] | false ↦ key ∷ [] ]
 
-  changes : {x x' y y' : Object} → Object_stands t x x' → Object_stands t y y' → changed_in t.captures x y ≡ changed_in second x' y'
+  changes : {x x' y y' : Object} → Object_stands t x x' → Object_stands t y y' → changed_in t.sites.captures x y ≡ changed_in second x' y'
   changes (plain h) (plain k) = ap₂ ◌++◌ (changed_props h k) (ap₂ ◌++◌ (added_props h k) (counted Keys (same_counts h) (same_counts k)))
   changes (plain h) _ = refl
   changes (array h) (array k) = ap₂ ◌++◌ (changed_places 0 (lists_of h) (lists_of k)) (counted Length (lengths (lists_of h)) (lengths (lists_of k)))
@@ -346,6 +346,14 @@ module _ (t : Ties) (apart : Apart t) (second : Site → List Text) (second_capt
   changes (signal h) (signal k) = unless_sames (Prop (codes "value")) h k
   changes (signal h) _ = refl
   changes _ _ = refl
+
+module _ {t : Site_ties} where
+  element_kinds : {x y : Shown} → Shown_as t x y → J.is_element x ≡ J.is_element y
+  element_kinds an_element = refl
+  element_kinds _ = refl
+
+  slot_shown : {a b : Text} → a ≡ b → Shown_as t (Slot a) (Slot b)
+  slot_shown {a} {b} e = subst (λ x. Shown_as t (Slot a) (Slot x)) e a_slot
 
 module _ {t : Ties} where
   -- ---- computeds under way
@@ -395,11 +403,7 @@ module _ {t : Ties} where
   all_attribute_faults element end_stands = refl
   all_attribute_faults element (field_stands {k = name} h hs) = ap₂ J.then_if (attribute_faults element name h) (all_attribute_faults element hs)
 
-  element_kinds : {x y : Shown} → Shown_as t x y → J.is_element x ≡ J.is_element y
-  element_kinds an_element = refl
-  element_kinds _ = refl
-
-  all_markup_faults : {x y : Shown} {f g : Fields} {all all' : Values} → Shown_as t x y → Fields_stand t f g → All_stand t all all' → markup_fault x f all ≡ markup_fault y g all'
+  all_markup_faults : {x y : Shown} {f g : Fields} {all all' : Values} → Shown_as t.sites x y → Fields_stand t f g → All_stand t all all' → markup_fault x f all ≡ markup_fault y g all'
   all_markup_faults {x} {y} {f} {g} s h k = ap₂ J.then_if (subst (λ e. J.attributes_fault (J.is_element x) f ≡ J.attributes_fault e g) (element_kinds s) (all_attribute_faults (J.is_element x) h)) (sequence_faults k [])
 
   keys_among : {f g : Fields} → Fields_stand t f g → J.key_among f ≡ J.key_among g
@@ -418,13 +422,10 @@ module _ {t : Ties} where
   shown_alike end_stands = end_stands
   shown_alike (field_stands {k = name} h hs) = chosen_fields (is_among name (codes "key" ∷ codes "q:slot" ∷ [])) (shown_alike hs) (field_stands h (shown_alike hs))
 
-  elems : {x y : Shown} {k k' : Option Text} {s s' : Text} {f g : Fields} {all all' : Values} → Shown_as t x y → k ≡ k' → s ≡ s' → Fields_stand t f g → All_stand t all all' → Stands t (Elem x k s f all) (Elem y k' s' g all')
+  elems : {x y : Shown} {k k' : Option Text} {s s' : Text} {f g : Fields} {all all' : Values} → Shown_as t.sites x y → k ≡ k' → s ≡ s' → Fields_stand t f g → All_stand t all all' → Stands t (Elem x k s f all) (Elem y k' s' g all')
   elems {x} {y} {k} {k'} {s} {s'} {f} {g} {all} {all'} h p q hs ks = subst (λ z. Stands t (Elem x k s f all) (Elem y z s' g all')) p (subst (λ z. Stands t (Elem x k s f all) (Elem y k z g all')) q (elem h hs ks))
 
-  slot_shown : {a b : Text} → a ≡ b → Shown_as t (Slot a) (Slot b)
-  slot_shown {a} {b} e = subst (λ x. Shown_as t (Slot a) (Slot x)) e a_slot
-
-  elements : {x y : Shown} {f g : Fields} {all all' : Values} → Shown_as t x y → Fields_stand t f g → All_stand t all all' → Stands t (element x f all) (element y g all')
+  elements : {x y : Shown} {f g : Fields} {all all' : Values} → Shown_as t.sites x y → Fields_stand t f g → All_stand t all all' → Stands t (element x f all) (element y g all')
   elements a_slot h k = elems (slot_shown (names_among h)) refl refl end_stands none_stand
   elements an_element h k = elems an_element (keys_among h) (slots_among h) (shown_alike h) k
   elements a_fragment h k = elems a_fragment (keys_among h) (slots_among h) (shown_alike h) k
@@ -433,7 +434,7 @@ module _ {t : Ties} where
   elements (own_symbol l c) h k = elems (own_symbol l c) (keys_among h) (slots_among h) (shown_alike h) k
 
 -- all that the laws ask of values
-pub all_facts : (t : Ties) → Apart t → (second : Site → List Text) → ((site : Site) → t.stays site ≡ true → second (t.other site) ≡ t.captures site) → Facts t t.captures second
+pub all_facts : (t : Ties) → Apart t → (second : Site → List Text) → ((site : Site) → t.sites.stays site ≡ true → second (t.sites.other site) ≡ t.sites.captures site) → Facts t t.sites.captures second
 all_facts t apart second second_captures = record {
   truths = truths;
   functions = functions;

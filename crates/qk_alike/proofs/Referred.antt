@@ -90,22 +90,22 @@ module _ {t : Ties} {b : Start} {K : Relation} {here here' : Setting} (w : Setti
 
   -- ---- names
 
-  root_references : {r : Reach} {x y : Root} → Roots_stand t x y → References_stand t r (root_reference x) (root_reference y)
-  root_references (framework h) = framework_name h
-  root_references (holds h) = of h
+  root_references : {r : Reach} {x y : Root} → Roots_stand t.sites x y → References_stand t r (root_reference x) (root_reference y)
+  root_references (framework h) = framework_name (h t.pairing)
+  root_references (holds h) = of (h t.pairing)
   root_references (shows h) = of undefined
   root_references unknown = of undefined
 
-  uses_told : {r : Reach} (name : Text) {x y : Root} → Roots_stand t x y → K r _ _ Done (use_told here name x) (use_told here' name y)
+  uses_told : {r : Reach} (name : Text) {x y : Root} → Roots_stand t.sites x y → K r _ _ Done (use_told here name x) (use_told here' name y)
   uses_told name (framework h) = gives done
   uses_told name (holds h) = notes both_used
   uses_told name (shows h) = notes both_used
   uses_told name unknown = notes both_used
 
-  outer_lem : {r : Reach} (name : Text) → Roots_stand t (here.program.root here.file name) (here'.program.root here'.file name) → K r _ _ (References_stand t r) (outer_named here name) (outer_named here' name)
+  outer_lem : {r : Reach} (name : Text) → Roots_stand t.sites (here.program.root here.file name) (here'.program.root here'.file name) → K r _ _ (References_stand t r) (outer_named here name) (outer_named here' name)
   outer_lem name h = S.choose laws (ap (λ c. c && same_text name (codes "track")) w.tracks) (gives tracker) (bind (uses_told name h) (λ x y d. gives (root_references h)))
 
-  pub named_lem : {r : Reach} (name : Text) → is_reached r name ≡ true → (is_local r name ≡ false → Roots_stand t (here.program.root here.file name) (here'.program.root here'.file name)) →
+  pub named_lem : {r : Reach} (name : Text) → is_reached r name ≡ true → (is_local r name ≡ false → Roots_stand t.sites (here.program.root here.file name) (here'.program.root here'.file name)) →
       K r _ _ (References_stand t r) (named here name) (named here' name)
   named_lem {r} name h k = bind scope_names (λ f g l. by f g l)
     where

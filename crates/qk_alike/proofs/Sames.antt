@@ -46,8 +46,8 @@ module _ (captures : Site → List Text) where
   same-picked [] f g = refl
   same-picked (name ∷ names) f g = ap₂ ◌&&◌ (same-named f name (value_at name g)) (same-picked names f g)
 
-module _ (t : Ties) (apart : Apart t) (second : Site → List Text) (second_captures : (site : Site) → t.stays site ≡ true → second (t.other site) ≡ t.captures site) where
-  shown_same : {x x' y y' : Shown} → Shown_as t x x' → Shown_as t y y' → same_shown x y ≡ same_shown x' y'
+module _ (t : Ties) (apart : Apart t) (second : Site → List Text) (second_captures : (site : Site) → t.sites.stays site ≡ true → second (t.sites.other site) ≡ t.sites.captures site) where
+  shown_same : {x x' y y' : Shown} → Shown_as t.sites x x' → Shown_as t.sites y y' → same_shown x y ≡ same_shown x' y'
   shown_same (a_component {site = s} h _ _) (a_component {site = u} k _ _) = apart.sites_one s u h k
   shown_same (a_symbol {site = s} h _) (a_symbol {site = u} k _) = apart.symbols_one s u h k
   shown_same (a_component {site = s} h _ _) (a_symbol {site = u} k _) = (apart.kinds_apart u s k h).1
@@ -94,12 +94,12 @@ module _ (t : Ties) (apart : Apart t) (second : Site → List Text) (second_capt
   if_site true false x y y' e f = absurd (not_both e)
   if_site false true x y y' e f = absurd (not_both (sym e))
 
-  aligned : (s u : Site) → same_site s u ≡ true → (f g : Fields) {b : Bool} → same_all t.captures (packed (picked (t.captures s) f)) (packed (picked (t.captures u) g)) ≡ b →
-      same_all t.captures (packed (picked (t.captures s) f)) (packed (picked (t.captures s) g)) ≡ b
-  aligned s u e f g k = ap (λ names. same_all t.captures (packed (picked (t.captures s) f)) (packed (picked names g))) (apart.captured_alike s u e) ∙ k
+  aligned : (s u : Site) → same_site s u ≡ true → (f g : Fields) {b : Bool} → same_all t.sites.captures (packed (picked (t.sites.captures s) f)) (packed (picked (t.sites.captures u) g)) ≡ b →
+      same_all t.sites.captures (packed (picked (t.sites.captures s) f)) (packed (picked (t.sites.captures s) g)) ≡ b
+  aligned s u e f g k = ap (λ names. same_all t.sites.captures (packed (picked (t.sites.captures s) f)) (packed (picked names g))) (apart.captured_alike s u e) ∙ k
 
   mutual
-    pub sames : {v v' w w' : Value} → Stands t v v' → Stands t w w' → same t.captures v w ≡ same second v' w'
+    pub sames : {v v' w w' : Value} → Stands t v v' → Stands t w w' → same t.sites.captures v w ≡ same second v' w'
     sames (ref {a = a} {b = b} h) (ref {a = a'} {b = b'} k) =
         addresses a a' b b' (λ e. apart.one_right a b b' h (subst (λ x. Paired t.pairing x b') (sym e) k)) (λ e. apart.one_left a a' b h (subst (λ x. Paired t.pairing a' x) (sym e) k))
     sames (items h) (items k) = all_sames h k
@@ -107,14 +107,14 @@ module _ (t : Ties) (apart : Apart t) (second : Site → List Text) (second_capt
     sames (elem {key = key} {slot = slot} s f h) (elem {key = key'} {slot = slot'} u g k) = five (same_key key key') (same_text slot slot') (shown_same s u) (field_sames f g) (all_sames h k)
     sames (lifted {symbol = a} {hidden = b} e n h) (lifted {symbol = a'} {hidden = b'} e' n' k) = ap (λ x. same_text a a' && same_truth b b' && x) (all_sames h k)
     sames (closure {site = s} {f = f} {g = f'} {hidden = hidden} l fits fits' h) (closure {site = u} {f = g} {g = g'} {hidden = hidden'} m fits'' fits''' k) =
-        if_site (same_site s u) (same_site (t.other s) (t.other u)) (same_truth hidden hidden') _ _ (apart.sites_one s u l m)
-        (λ e. same-picked t.captures (t.captures s) f g ∙ (aligned s u e f g (all_sames h k) ∙ (ap (λ names. same_all second (packed (picked (t.captures s) f')) (packed (picked names g'))) (sym (apart.captured_alike s u e)) ∙ (sym (same-picked second (t.captures s) f' g') ∙ ap (λ names. all_true (map (λ name. same_named second f' name (value_at name g')) names)) (sym (second_captures s l))))))
+        if_site (same_site s u) (same_site (t.sites.other s) (t.sites.other u)) (same_truth hidden hidden') _ _ (apart.sites_one s u l m)
+        (λ e. same-picked t.sites.captures (t.sites.captures s) f g ∙ (aligned s u e f g (all_sames h k) ∙ (ap (λ names. same_all second (packed (picked (t.sites.captures s) f')) (packed (picked names g'))) (sym (apart.captured_alike s u e)) ∙ (sym (same-picked second (t.sites.captures s) f' g') ∙ ap (λ names. all_true (map (λ name. same_named second f' name (value_at name g')) names)) (sym (second_captures s l))))))
     sames (by_symbol {site = s} {f = f} {hidden = hidden} l fits h) (by_symbol {site = u} {f = g} {hidden = hidden'} m fits' k) =
-        if_site (same_site s u) (same_text (t.symbol s) (t.symbol u)) (same_truth hidden hidden') _ _ (apart.symbols_one s u l m) (λ e. same-picked t.captures (t.captures s) f g ∙ aligned s u e f g (all_sames h k))
+        if_site (same_site s u) (same_text (t.sites.symbol s) (t.sites.symbol u)) (same_truth hidden hidden') _ _ (apart.symbols_one s u l m) (λ e. same-picked t.sites.captures (t.sites.captures s) f g ∙ aligned s u e f g (all_sames h k))
     sames (closure {site = s} {f = f} {hidden = hidden} l fits fits' h) (by_symbol {site = u} {f = g} {hidden = hidden'} m fits'' k) =
-        ap (λ b. b && same_truth hidden hidden' && all_true (map (λ name. same_named t.captures f name (value_at name g)) (t.captures s))) ((apart.kinds_apart u s m l).1)
+        ap (λ b. b && same_truth hidden hidden' && all_true (map (λ name. same_named t.sites.captures f name (value_at name g)) (t.sites.captures s))) ((apart.kinds_apart u s m l).1)
     sames (by_symbol {site = s} {f = f} {hidden = hidden} l fits h) (closure {site = u} {f = g} {hidden = hidden'} m fits' fits'' k) =
-        ap (λ b. b && same_truth hidden hidden' && all_true (map (λ name. same_named t.captures f name (value_at name g)) (t.captures s))) ((apart.kinds_apart s u l m).0)
+        ap (λ b. b && same_truth hidden hidden' && all_true (map (λ name. same_named t.sites.captures f name (value_at name g)) (t.sites.captures s))) ((apart.kinds_apart s u l m).0)
     sames (by_symbol {site = s} l fits h) (lifted e n k) = absurd (apart.no_both s l e)
     sames (lifted e n k) (by_symbol {site = s} l fits h) = absurd (apart.no_both s l e)
     sames undefined undefined = refl
@@ -251,13 +251,13 @@ module _ (t : Ties) (apart : Apart t) (second : Site → List Text) (second_capt
     sames (lifted h0 h1 h2) (elem k0 k1 k2) = refl
     sames (lifted h0 h1 h2) (closure k0 k1 k2 k3) = refl
 
-    pub all_sames : {v v' w w' : Values} → All_stand t v v' → All_stand t w w' → same_all t.captures v w ≡ same_all second v' w'
+    pub all_sames : {v v' w w' : Values} → All_stand t v v' → All_stand t w w' → same_all t.sites.captures v w ≡ same_all second v' w'
     all_sames none_stand none_stand = refl
     all_sames none_stand (item_stands k ks) = refl
     all_sames (item_stands h hs) none_stand = refl
     all_sames (item_stands h hs) (item_stands k ks) = ap₂ ◌&&◌ (sames h k) (all_sames hs ks)
 
-    pub field_sames : {v v' w w' : Fields} → Fields_stand t v v' → Fields_stand t w w' → same_fields t.captures v w ≡ same_fields second v' w'
+    pub field_sames : {v v' w w' : Fields} → Fields_stand t v v' → Fields_stand t w w' → same_fields t.sites.captures v w ≡ same_fields second v' w'
     field_sames end_stands end_stands = refl
     field_sames end_stands (field_stands k ks) = refl
     field_sames (field_stands h hs) end_stands = refl

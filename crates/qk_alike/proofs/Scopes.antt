@@ -48,9 +48,9 @@ picked_value {t} name (n ∷ names) f g (item_stands h hs) e = go (same_text n n
     go false p next e = next e
 
 -- scopes that the functions of a site keep on both sides
-pub kept_scopes : {t : Ties} {site : Site} (f g : Fields) → Fits t site f → Fits t site g → All_stand t (packed (picked (t.captures site) f)) (packed (picked (t.captures site) g)) → Scopes_stand t (t.free site) (t.captures site) f g
+pub kept_scopes : {t : Ties} {site : Site} (f g : Fields) → Fits t.sites site f → Fits t.sites site g → All_stand t (packed (picked (t.sites.captures site) f)) (packed (picked (t.sites.captures site) g)) → Scopes_stand t (t.sites.free site) (t.sites.captures site) f g
 kept_scopes {t} {site} f g p q h = record {
-  alike = λ name e. held_found name f g (is_listed name (t.captures site)) (p name e) (q name e) (picked_value name (t.captures site) f g h);
+  alike = λ name e. held_found name f g (is_listed name (t.sites.captures site)) (p name e) (q name e) (picked_value name (t.sites.captures site) f g h);
   held = p;
 }
 
@@ -75,9 +75,9 @@ zipped_value {t} name (n ∷ names) f (item w ws) (item_stands h hs) e = go (sam
     go false p next e = next e
 
 -- a whole scope against the captured values
-pub captured_scopes : {t : Ties} {site : Site} (f : Fields) (v : Values) → Fits t site f → All_stand t (packed (picked (t.captures site) f)) v → Scopes_stand t (t.free site) (t.captures site) f (zipped (t.captures site) (listed v))
+pub captured_scopes : {t : Ties} {site : Site} (f : Fields) (v : Values) → Fits t.sites site f → All_stand t (packed (picked (t.sites.captures site) f)) v → Scopes_stand t (t.sites.free site) (t.sites.captures site) f (zipped (t.sites.captures site) (listed v))
 captured_scopes {t} {site} f v p h = record {
-  alike = λ name e. held_found name f (zipped (t.captures site) (listed v)) (is_listed name (t.captures site)) (p name e) (zipped_held name (t.captures site) f v h) (zipped_value name (t.captures site) f v h);
+  alike = λ name e. held_found name f (zipped (t.sites.captures site) (listed v)) (is_listed name (t.sites.captures site)) (p name e) (zipped_held name (t.sites.captures site) f v h) (zipped_value name (t.sites.captures site) f v h);
   held = p;
 }
 

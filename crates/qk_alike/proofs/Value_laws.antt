@@ -47,5 +47,5 @@ pub record Facts (t : Ties) (captures captures' : Site → List Text) : Type 0 w
   pub changes : {x x' y y' : Object} → Object_stands t x x' → Object_stands t y y' → changed_in captures x y ≡ changed_in captures' x' y'
   pub under_way : {a b : ℕ} {all all' : List ℕ} → Paired t.pairing a b → Pairwise (Paired t.pairing) all all' → is_running a all ≡ is_running b all'
   pub listing : {f g : Fields} → Fields_stand t f g → Fields_stand t (in_listing_order end f) (in_listing_order end g)
-  pub markup_faults : {x y : Shown} {f g : Fields} {all all' : Values} → Shown_as t x y → Fields_stand t f g → All_stand t all all' → markup_fault x f all ≡ markup_fault y g all'
-  pub elements : {x y : Shown} {f g : Fields} {all all' : Values} → Shown_as t x y → Fields_stand t f g → All_stand t all all' → Stands t (element x f all) (element y g all')
+  pub markup_faults : {x y : Shown} {f g : Fields} {all all' : Values} → Shown_as t.sites x y → Fields_stand t f g → All_stand t all all' → markup_fault x f all ≡ markup_fault y g all'
+  pub elements : {x y : Shown} {f g : Fields} {all all' : Values} → Shown_as t.sites x y → Fields_stand t f g → All_stand t all all' → Stands t (element x f all) (element y g all')

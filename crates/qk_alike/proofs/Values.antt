@@ -45,42 +45,42 @@ deep_all : (captures : Site → List Text) (f : Fields) (names : List Text) → 
 deep_all captures f [] = refl
 deep_all captures f (name ∷ names) = ap₂ max (deep captures f name) (deep_all captures f names)
 
-module _ (t : Ties) (second : Site → List Text) (second_captures : (site : Site) → t.stays site ≡ true → second (t.other site) ≡ t.captures site) where
+module _ (t : Ties) (second : Site → List Text) (second_captures : (site : Site) → t.sites.stays site ≡ true → second (t.sites.other site) ≡ t.sites.captures site) where
   mutual
-    pub weights : {v w : Value} → Stands t v w → weight t.captures v ≡ weight second w
+    pub weights : {v w : Value} → Stands t v w → weight t.sites.captures v ≡ weight second w
     weights (items h) = ap suc (all_weights h)
     weights (fields h) = ap suc (field_weights h)
     weights (elem s f h) = ap suc (ap₂ ◌+◌ (field_weights f) (all_weights h))
     weights (closure {site = s} {f = f} {g = g} l p q h) =
-        ap suc (weighed_all t.captures f (t.captures s) ∙ (all_weights h ∙ (sym (weighed_all second g (t.captures s)) ∙ ap (λ names. total (map (λ name. weight_of_named second g name) names)) (sym (second_captures s l)))))
-    weights (by_symbol {site = s} {f = f} l p h) = ap suc (weighed_all t.captures f (t.captures s) ∙ all_weights h)
+        ap suc (weighed_all t.sites.captures f (t.sites.captures s) ∙ (all_weights h ∙ (sym (weighed_all second g (t.sites.captures s)) ∙ ap (λ names. total (map (λ name. weight_of_named second g name) names)) (sym (second_captures s l)))))
+    weights (by_symbol {site = s} {f = f} l p h) = ap suc (weighed_all t.sites.captures f (t.sites.captures s) ∙ all_weights h)
     weights (lifted e n h) = ap suc (all_weights h)
     weights _ = refl
 
-    all_weights : {v w : Values} → All_stand t v w → weight_of_all t.captures v ≡ weight_of_all second w
+    all_weights : {v w : Values} → All_stand t v w → weight_of_all t.sites.captures v ≡ weight_of_all second w
     all_weights none_stand = refl
     all_weights (item_stands h hs) = ap₂ ◌+◌ (weights h) (all_weights hs)
 
-    field_weights : {v w : Fields} → Fields_stand t v w → weight_of_fields t.captures v ≡ weight_of_fields second w
+    field_weights : {v w : Fields} → Fields_stand t v w → weight_of_fields t.sites.captures v ≡ weight_of_fields second w
     field_weights end_stands = refl
     field_weights (field_stands h hs) = ap₂ ◌+◌ (weights h) (field_weights hs)
 
   mutual
-    pub depths : {v w : Value} → Stands t v w → depth t.captures v ≡ depth second w
+    pub depths : {v w : Value} → Stands t v w → depth t.sites.captures v ≡ depth second w
     depths (items h) = ap suc (all_depths h)
     depths (fields h) = ap suc (field_depths h)
     depths (elem s f h) = ap suc (ap₂ max (field_depths f) (all_depths h))
     depths (closure {site = s} {f = f} {g = g} l p q h) =
-        ap suc (deep_all t.captures f (t.captures s) ∙ (all_depths h ∙ (sym (deep_all second g (t.captures s)) ∙ ap (λ names. greatest (map (λ name. depth_of_named second g name) names)) (sym (second_captures s l)))))
-    depths (by_symbol {site = s} {f = f} l p h) = ap suc (deep_all t.captures f (t.captures s) ∙ all_depths h)
+        ap suc (deep_all t.sites.captures f (t.sites.captures s) ∙ (all_depths h ∙ (sym (deep_all second g (t.sites.captures s)) ∙ ap (λ names. greatest (map (λ name. depth_of_named second g name) names)) (sym (second_captures s l)))))
+    depths (by_symbol {site = s} {f = f} l p h) = ap suc (deep_all t.sites.captures f (t.sites.captures s) ∙ all_depths h)
     depths (lifted e n h) = ap suc (all_depths h)
     depths _ = refl
 
-    all_depths : {v w : Values} → All_stand t v w → depth_of_all t.captures v ≡ depth_of_all second w
+    all_depths : {v w : Values} → All_stand t v w → depth_of_all t.sites.captures v ≡ depth_of_all second w
     all_depths none_stand = refl
     all_depths (item_stands h hs) = ap₂ max (depths h) (all_depths hs)
 
-    field_depths : {v w : Fields} → Fields_stand t v w → depth_of_fields t.captures v ≡ depth_of_fields second w
+    field_depths : {v w : Fields} → Fields_stand t v w → depth_of_fields t.sites.captures v ≡ depth_of_fields second w
     field_depths end_stands = refl
     field_depths (field_stands h hs) = ap₂ max (depths h) (field_depths hs)
 

@@ -13,7 +13,7 @@ use Rattle.qk_ast.specs.declared.Jsx.{Jsx'}
 use Rattle.qk_ast.specs.declared.Body.{Body, Block' as Body_block'}
 use Rattle.qk_alike.specs.Meanings_stand.{Framework_alike, Roots_stand}
 use Rattle.qk_meaning.specs.Alike.{Locals_stand, Reach, deeper, is_local, is_reached}
-use Rattle.qk_meaning.specs.Ties.{Shown_as, Stands, Ties}
+use Rattle.qk_meaning.specs.Ties.{Pairing, Shown_as, Site_ties, Stands, ties_over}
 use Rattle.qk_ast.specs.Names.{around, declared_in, is_listed}
 use Rattle.qk_ast.specs.Texts.{same_text}
 use Rattle.qk_meaning.specs.Evaluation.{own_names}
@@ -57,14 +57,14 @@ made_by {P} {file} (an_arrow {place = place}) scope = P.makes (P.site file place
 made_by {P} {file} (a_dollar {place = place} m call) scope = P.makes (P.site file place) scope
 made_by (a_qrl {symbol = symbol} {names = names} m call) scope = Lifted symbol (packed (picked names scope)) false
 
-pub data Tags_stand (P Q : Program) (t : Ties) (file file' : Text) : Tag → Tag → Type 0 where
+pub data Tags_stand (P Q : Program) (t : Site_ties) (file file' : Text) : Tag → Tag → Type 0 where
   element_tags : {tag : Text} → Tags_stand P Q t file file' (Tag.Element tag) (Tag.Element tag)
   component_tags : {name : Text} → Shown_as t (root_shown (P.root file name)) (root_shown (Q.root file' name)) → Tags_stand P Q t file file' (Tag.Component name) (Tag.Component name)
   fragment_tags : Tags_stand P Q t file file' Tag.Fragment Tag.Fragment
 
 mutual
   -- expressions
-  pub data Exprs_stand (P Q : Program) (t : Ties) (file file' : Text) : Reach → Expr → Expr → Type 0 where
+  pub data Exprs_stand (P Q : Program) (t : Site_ties) (file file' : Text) : Reach → Expr → Expr → Type 0 where
     undefineds : {r : Reach} → Exprs_stand P Q t file file' r Expr.Undefined Expr.Undefined
     nulls : {r : Reach} → Exprs_stand P Q t file file' r Expr.Null Expr.Null
     bools : {r : Reach} {b : Bool} → Exprs_stand P Q t file file' r (Expr.Bool b) (Expr.Bool b)
@@ -85,32 +85,32 @@ mutual
     steps : {r : Reach} {up : Bool} {s s' : _} {e e' : Expr} {rest rest' : _} → Exprs_stand P Q t file file' r e e' → Exprs_stand P Q t file file' r (Expr.Step' up s (more_of-Expr e rest)) (Expr.Step' up s' (more_of-Expr e' rest'))
     knowns : {r : Reach} {known : Known} {s s' : _} {all all' : _} → Rows_stand P Q t file file' r _ _ all all' → Exprs_stand P Q t file file' r (Expr.Known' known s all) (Expr.Known' known s' all')
     -- forms that make functions, which stand for one another; of the bodies the programs speak
-    functions : {r : Reach} {e e' : Expr} (m : Makes P file r e) (m' : Makes Q file' r e') → ((f g : Fields) → Locals_stand t r.free r.captured r.own f g → Stands t (made_by m f) (made_by m' g)) → Exprs_stand P Q t file file' r e e'
+    functions : {r : Reach} {e e' : Expr} (m : Makes P file r e) (m' : Makes Q file' r e') → ((p : Pairing) (f g : Fields) → Locals_stand (ties_over t p) r.free r.captured r.own f g → Stands (ties_over t p) (made_by m f) (made_by m' g)) → Exprs_stand P Q t file file' r e e'
     -- two names of the framework for one thing, as `useTask$` and `useTaskQrl`
-    framework_names : {r : Reach} {name name' a b : Text} → Means P file r name a → Means Q file' r name' b → Framework_alike t a b → Exprs_stand P Q t file file' r (Expr.Name name) (Expr.Name name')
+    framework_names : {r : Reach} {name name' a b : Text} → Means P file r name a → Means Q file' r name' b → ((p : Pairing) → Framework_alike (ties_over t p) a b) → Exprs_stand P Q t file file' r (Expr.Name name) (Expr.Name name')
     elements : {r : Reach} {s s' : _} {rest rest' : _} {tag tag' : Tag} {u u' v v' : _} {attributes attributes' : _} {children children' : _} → Tags_stand P Q t file file' tag tag' → Field_rows_stand P Q t file file' r _ _ attributes attributes' → Rows_stand P Q t file file' r _ _ children children' →
         Exprs_stand P Q t file file' r (Expr.Jsx' s (more_of-Jsx (Jsx' tag u attributes v children) rest)) (Expr.Jsx' s' (more_of-Jsx (Jsx' tag' u' attributes' v' children') rest'))
 
-  pub data Rows_stand (P Q : Program) (t : Ties) (file file' : Text) : Reach → (m m' : _) → Row_of-Expr m → Row_of-Expr m' → Type 0 where
+  pub data Rows_stand (P Q : Program) (t : Site_ties) (file file' : Text) : Reach → (m m' : _) → Row_of-Expr m → Row_of-Expr m' → Type 0 where
     no_exprs : {r : Reach} → Rows_stand P Q t file file' r _ _ end_of-Expr end_of-Expr
     one_expr : {r : Reach} {e e' : Expr} {m m' : _} {rest : Row_of-Expr m} {rest' : Row_of-Expr m'} → Exprs_stand P Q t file file' r e e' → Rows_stand P Q t file file' r _ _ rest rest' → Rows_stand P Q t file file' r _ _ (more_of-Expr e rest) (more_of-Expr e' rest')
 
-  pub data Field_rows_stand (P Q : Program) (t : Ties) (file file' : Text) : Reach → (m m' : _) → Row_of-Field m → Row_of-Field m' → Type 0 where
+  pub data Field_rows_stand (P Q : Program) (t : Site_ties) (file file' : Text) : Reach → (m m' : _) → Row_of-Field m → Row_of-Field m' → Type 0 where
     no_fields : {r : Reach} → Field_rows_stand P Q t file file' r _ _ end_of-Field end_of-Field
     one_field : {r : Reach} {key : Text} {e e' : Expr} {m m' : _} {rest : Row_of-Field m} {rest' : Row_of-Field m'} → Exprs_stand P Q t file file' r e e' → Field_rows_stand P Q t file file' r _ _ rest rest' → Field_rows_stand P Q t file file' r _ _ (more_of-Field key e rest) (more_of-Field key e' rest')
 
-  pub data Operand_rows_stand (P Q : Program) (t : Ties) (file file' : Text) : Reach → (m m' : _) → Row_of-Operand m → Row_of-Operand m' → Type 0 where
+  pub data Operand_rows_stand (P Q : Program) (t : Site_ties) (file file' : Text) : Reach → (m m' : _) → Row_of-Operand m → Row_of-Operand m' → Type 0 where
     no_operands : {r : Reach} → Operand_rows_stand P Q t file file' r _ _ end_of-Operand end_of-Operand
     one_operand : {r : Reach} {op : Bin} {e e' : Expr} {m m' : _} {rest : Row_of-Operand m} {rest' : Row_of-Operand m'} → Exprs_stand P Q t file file' r e e' → Operand_rows_stand P Q t file file' r _ _ rest rest' → Operand_rows_stand P Q t file file' r _ _ (more_of-Operand op e rest) (more_of-Operand op e' rest')
 
-  pub data Link_rows_stand (P Q : Program) (t : Ties) (file file' : Text) : Reach → (m m' : _) → Row_of-Link m → Row_of-Link m' → Type 0 where
+  pub data Link_rows_stand (P Q : Program) (t : Site_ties) (file file' : Text) : Reach → (m m' : _) → Row_of-Link m → Row_of-Link m' → Type 0 where
     no_links : {r : Reach} → Link_rows_stand P Q t file file' r _ _ end_of-Link end_of-Link
     prop_link : {r : Reach} {name : Text} {m m' : _} {rest : Row_of-Link m} {rest' : Row_of-Link m'} → Link_rows_stand P Q t file file' r _ _ rest rest' → Link_rows_stand P Q t file file' r _ _ (more_of-Link (Link.Prop name) rest) (more_of-Link (Link.Prop name) rest')
     index_link : {r : Reach} {e e' : Expr} {m m' : _} {rest : Row_of-Link m} {rest' : Row_of-Link m'} → Exprs_stand P Q t file file' r e e' → Link_rows_stand P Q t file file' r _ _ rest rest' → Link_rows_stand P Q t file file' r _ _ (more_of-Link (Link.Index e) rest) (more_of-Link (Link.Index e') rest')
     call_link : {r : Reach} {s s' : _} {all all' : _} {m m' : _} {rest : Row_of-Link m} {rest' : Row_of-Link m'} → Rows_stand P Q t file file' r _ _ all all' → Link_rows_stand P Q t file file' r _ _ rest rest' → Link_rows_stand P Q t file file' r _ _ (more_of-Link (Link.Call' s all) rest) (more_of-Link (Link.Call' s' all') rest')
 
   -- statements
-  pub data Stmts_stand (P Q : Program) (t : Ties) (file file' : Text) : Reach → Stmt → Stmt → Type 0 where
+  pub data Stmts_stand (P Q : Program) (t : Site_ties) (file file' : Text) : Reach → Stmt → Stmt → Type 0 where
     const_names : {r : Reach} {name : Text} {e e' : Expr} → Exprs_stand P Q t file file' r e e' → Stmts_stand P Q t file file' r (Stmt.Const (Pattern.Name name) e) (Stmt.Const (Pattern.Name name) e')
     const_fields : {r : Reach} {all : List Text} {e e' : Expr} → Exprs_stand P Q t file file' r e e' → Stmts_stand P Q t file file' r (Stmt.Const (Pattern.Fields all) e) (Stmt.Const (Pattern.Fields all) e')
     const_scopes : {r : Reach} {all : List Text} {e e' : Expr} → Stmts_stand P Q t file file' r (Stmt.Const (Pattern.Scope all) e) (Stmt.Const (Pattern.Scope all) e')
@@ -127,25 +127,25 @@ mutual
     blocks : {r : Reach} {s s' : _} {all all' : _} → Blocks_stand P Q t file file' r _ _ all all' → Stmts_stand P Q t file file' r (Statement_block' s all) (Statement_block' s' all')
 
   -- blocks, which declare the same names
-  pub data Blocks_stand (P Q : Program) (t : Ties) (file file' : Text) : Reach → (m m' : _) → Row_of-Stmt m → Row_of-Stmt m' → Type 0 where
+  pub data Blocks_stand (P Q : Program) (t : Site_ties) (file file' : Text) : Reach → (m m' : _) → Row_of-Stmt m → Row_of-Stmt m' → Type 0 where
     a_block : {r : Reach} {m m' : _} {all : Row_of-Stmt m} {all' : Row_of-Stmt m'} → declared_in all ≡ declared_in all' → Stmt_rows_stand P Q t file file' (deeper (declared_in all) r) _ _ all all' → Blocks_stand P Q t file file' r _ _ all all'
 
-  pub data Stmt_rows_stand (P Q : Program) (t : Ties) (file file' : Text) : Reach → (m m' : _) → Row_of-Stmt m → Row_of-Stmt m' → Type 0 where
+  pub data Stmt_rows_stand (P Q : Program) (t : Site_ties) (file file' : Text) : Reach → (m m' : _) → Row_of-Stmt m → Row_of-Stmt m' → Type 0 where
     no_stmts : {r : Reach} → Stmt_rows_stand P Q t file file' r _ _ end_of-Stmt end_of-Stmt
     one_stmt : {r : Reach} {e e' : Stmt} {m m' : _} {rest : Row_of-Stmt m} {rest' : Row_of-Stmt m'} → Stmts_stand P Q t file file' r e e' → Stmt_rows_stand P Q t file file' r _ _ rest rest' → Stmt_rows_stand P Q t file file' r _ _ (more_of-Stmt e rest) (more_of-Stmt e' rest')
 
 -- statements of an arrow's block: the second may begin with its captured values
-pub data Own_rows_stand (P Q : Program) (t : Ties) (file file' : Text) : Reach → (m m' : _) → Row_of-Stmt m → Row_of-Stmt m' → Type 0 where
+pub data Own_rows_stand (P Q : Program) (t : Site_ties) (file file' : Text) : Reach → (m m' : _) → Row_of-Stmt m → Row_of-Stmt m' → Type 0 where
   both_rows : {r : Reach} {m m' : _} {all : Row_of-Stmt m} {all' : Row_of-Stmt m'} → Stmt_rows_stand P Q t file file' r _ _ all all' → Own_rows_stand P Q t file file' r _ _ all all'
   scope_row : {r : Reach} {m m' : _} {all : Row_of-Stmt m} {all' : Row_of-Stmt m'} {names : List Text} {e : Expr} → Stmt_rows_stand P Q t file file' r _ _ all all' → Own_rows_stand P Q t file file' r _ _ all (more_of-Stmt (Stmt.Const (Pattern.Scope names) e) all')
 
 -- a block that returns an expression, which stands for this one
-pub data Returns_stand (P Q : Program) (t : Ties) (file file' : Text) : Reach → Expr → (m : _) → Row_of-Stmt m → Type 0 where
+pub data Returns_stand (P Q : Program) (t : Site_ties) (file file' : Text) : Reach → Expr → (m : _) → Row_of-Stmt m → Type 0 where
   return_row : {r : Reach} {e e' : Expr} → Exprs_stand P Q t file file' r e e' → Returns_stand P Q t file file' r e _ (more_of-Stmt (Stmt.Return' (Some' e')) end_of-Stmt)
   scope_return_row : {r : Reach} {e e' d : Expr} {names : List Text} → Exprs_stand P Q t file file' r e e' → Returns_stand P Q t file file' r e _ (more_of-Stmt (Stmt.Const (Pattern.Scope names) d) (more_of-Stmt (Stmt.Return' (Some' e')) end_of-Stmt))
 
 -- the bodies of arrows, whose names are open
-pub data Bodies_stand (P Q : Program) (t : Ties) (file file' : Text) : Reach → Body → Body → Type 0 where
+pub data Bodies_stand (P Q : Program) (t : Site_ties) (file file' : Text) : Reach → Body → Body → Type 0 where
   value_bodies : {r : Reach} {s s' : _} {e e' : Expr} {rest rest' : _} → Exprs_stand P Q t file file' r e e' → Bodies_stand P Q t file file' r (Body.Value' s (more_of-Expr e rest)) (Body.Value' s' (more_of-Expr e' rest'))
   block_bodies : {r : Reach} {s s' : _} {all all' : _} → Own_rows_stand P Q t file file' r _ _ all all' → Bodies_stand P Q t file file' r (Body_block' s all) (Body_block' s' all')
   -- the first is an expression, which the second returns
@@ -156,7 +156,7 @@ abbrev pub reach_of : Code → List Text → List Text → Reach
 reach_of code free captured = record { own = around (own_names code) []; free = free; captured = captured }
 
 -- the arrows of functions that stand for one another: the same parameters, and bodies that stand for one another
-pub record Codes_stand (P Q : Program) (t : Ties) (free captured : List Text) (code code' : Code) : Type 0 where
+pub record Codes_stand (P Q : Program) (t : Site_ties) (free captured : List Text) (code code' : Code) : Type 0 where
   pub tracker : has_tracker code ≡ has_tracker code'
   pub params : code.params ≡ code'.params
   pub names : own_names code ≡ own_names code'
@@ -169,7 +169,7 @@ abbrev pub seen : Code → List Text → List Text
 seen code free = elim (has_tracker code) [ true ↦ codes "track" ∷ free | false ↦ free ]
 
 -- two programs whose functions stand for one another
-pub record Programs_stand (P Q : Program) (t : Ties) : Type 0 where
+pub record Programs_stand (P Q : Program) (t : Site_ties) : Type 0 where
   pub captures : (site : Site) → (P.code site).captures ≡ t.captures site
   pub other_captures : (site : Site) → t.stays site ≡ true → (Q.code (t.other site)).captures ≡ t.captures site
   pub sites : (site : Site) → t.stays site ≡ true → Codes_stand P Q t (seen (P.code site) (t.free site)) (t.captures site) (P.code site) (Q.code (t.other site))

@@ -9,7 +9,7 @@ use Rattle.qk_alike.specs.Computed_alike.{Computed_alike}
 
 -- readings of programs whose functions stand for one another agree, however computeds are read, as long as they are read alike
 abbrev pub ReadingsAgree : Type 0
-ReadingsAgree = (t : Ties) (b : Start) (computed : Computed_reading) (one other : Program) → Apart t → Programs_stand one other t → Computed_alike t b computed → Readings_agree t b computed one other
+ReadingsAgree = (t : Ties) (b : Start) (computed : Computed_reading) (one other : Program) → Apart t → Programs_stand one other t.sites → Computed_alike t b computed → Readings_agree t b computed one other
 
 -- computeds whose functions are called at each read are read alike
 abbrev pub CalledAnewAlike : Type 0

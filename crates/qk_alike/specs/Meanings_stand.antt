@@ -12,7 +12,7 @@ use Rattle.qk_meaning.specs.References.{Reference, Of, Member, Local, Tracker, F
 use Rattle.qk_meaning.specs.Methods.{Method, looked_up}
 use Rattle.qk_meaning.specs.Calls.{Callee, A_value, A_method, The_tracker, The_dollar, The_mark, A_hook, framework_callees}
 use Rattle.qk_meaning.specs.Flow.{Flow, Onward, Broke, Continued, Returned}
-use Rattle.qk_meaning.specs.Ties.{Ties, Paired, Shown_as, Stands, Pairwise, Object_stands, Loc_stands}
+use Rattle.qk_meaning.specs.Ties.{Ties, Site_ties, Pairing, ties_over, Paired, Shown_as, Stands, Pairwise, Object_stands, Loc_stands}
 use Rattle.qk_meaning.specs.Alike.{Reach, is_reached}
 
 pub data Callees_stand (t : Ties) : Callee → Callee → Type 0 where
@@ -31,9 +31,10 @@ pub data Found_callees (t : Ties) : Option Callee → Option Callee → Type 0 w
 abbrev pub Framework_alike : Ties → Text → Text → Type 0
 Framework_alike t a b = Found_callees t (looked_up a framework_callees) (looked_up b framework_callees)
 
-pub data Roots_stand (t : Ties) : Root → Root → Type 0 where
-  framework : {a b : Text} → Framework_alike t a b → Roots_stand t (Framework a) (Framework b)
-  holds : {v w : Value} → Stands t v w → Roots_stand t (Holds v) (Holds w)
+-- what roots hold is made of no address: it stands over each pairing
+pub data Roots_stand (t : Site_ties) : Root → Root → Type 0 where
+  framework : {a b : Text} → ((p : Pairing) → Framework_alike (ties_over t p) a b) → Roots_stand t (Framework a) (Framework b)
+  holds : {v w : Value} → ((p : Pairing) → Stands (ties_over t p) v w) → Roots_stand t (Holds v) (Holds w)
   shows : {x y : Shown} → Shown_as t x y → Roots_stand t (Shows x) (Shows y)
   unknown : Roots_stand t Unknown Unknown
 

@@ -26,7 +26,7 @@ use Rattle.qk_built_alike.specs.Laws.{AcceptedBuiltEventsAgree, AcceptedBuiltScr
 use Rattle.qk_built_alike.proofs.Accepted_built.{rules}
 use Rattle.qk_built_alike.proofs.Programs.{programs}
 
-names_alike : (modules : List Named_module) (pairing : Pairing) → Named_alike (built_ties modules pairing)
+names_alike : (modules : List Named_module) (pairing : Pairing) → Named_alike (built_ties modules pairing).sites
 names_alike modules pairing = record { lifted = λ s h. refl }
 
 pub accepted_built_events_agree : SymbolsAreSites → AcceptedBuiltEventsAgree
@@ -34,7 +34,7 @@ accepted_built_events_agree law modules accepted index pairing one facts =
     let kept = rules modules accepted index pairing law one facts in
     events_agree (built_ties modules pairing) (program_of modules) (built_program_of index (built_modules modules)) kept.apart (programs modules index pairing kept) (names_alike modules pairing)
 
-module _ (law : SymbolsAreSites) (modules : List Named_module) (accepted : Accepted modules) (index : Index) (facts : Built_facts modules index all_new) where
+module _ (law : SymbolsAreSites) (modules : List Named_module) (accepted : Accepted modules) (index : Index) (facts : Built_facts modules index) where
   abbrev P : Program
   P = program_of modules
 
@@ -47,7 +47,7 @@ module _ (law : SymbolsAreSites) (modules : List Named_module) (accepted : Accep
   kept : Built_rules modules index all_new
   kept = rules modules accepted index all_new law (pairs_one_to_one all_new all_apart) facts
 
-  stand : Programs_stand P Q t
+  stand : Programs_stand P Q t.sites
   stand = programs modules index all_new kept
 
   heaps : Heaps_stand t [] []

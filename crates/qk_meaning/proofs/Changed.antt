@@ -31,11 +31,11 @@ both : (a b : Bool) → (a && b) ≡ true → (a ≡ true) × (b ≡ true)
 both true b e = (refl, e)
 both false b e = absurd (false≢true e)
 
-not_is : (b : Bool) → not b ≡ true → b ≡ false
+pub not_is : (b : Bool) → not b ≡ true → b ≡ false
 not_is true e = absurd (false≢true e)
 not_is false e = refl
 
-text_is : (t u : Text) → same_text t u ≡ true → t ≡ u
+pub text_is : (t u : Text) → same_text t u ≡ true → t ≡ u
 text_is t u e = (bytes_eq-Decides t u).0 e
 
 text_apart : (t u : Text) → (t ≡ u → ⊥) → same_text t u ≡ false
@@ -122,15 +122,15 @@ item_popped captures all v =
 -- ---- fields
 
 -- what is found behind a field of another name, and at one of this name
-found_past : (w : Value) (o : Option Value) (b : Bool) → b ≡ false → elim b as (λ x. Option Value) [ true ↦ Some w | false ↦ o ] ≡ o
+pub found_past : (w : Value) (o : Option Value) (b : Bool) → b ≡ false → elim b as (λ x. Option Value) [ true ↦ Some w | false ↦ o ] ≡ o
 found_past w o true e = absurd (false≢true (sym e))
 found_past w o false e = refl
 
-found_here : (w : Value) (o : Option Value) (b : Bool) → b ≡ true → elim b as (λ x. Option Value) [ true ↦ Some w | false ↦ o ] ≡ Some w
+pub found_here : (w : Value) (o : Option Value) (b : Bool) → b ≡ true → elim b as (λ x. Option Value) [ true ↦ Some w | false ↦ o ] ≡ Some w
 found_here w o true e = refl
 found_here w o false e = absurd (false≢true e)
 
-has_past : (h b : Bool) → b ≡ false → elim b as (λ x. Bool) [ true ↦ true | false ↦ h ] ≡ h
+pub has_past : (h b : Bool) → b ≡ false → elim b as (λ x. Bool) [ true ↦ true | false ↦ h ] ≡ h
 has_past h true e = absurd (false≢true (sym e))
 has_past h false e = refl
 
@@ -142,11 +142,11 @@ has_more : (h b : Bool) → h ≡ true → elim b as (λ x. Bool) [ true ↦ tru
 has_more h true e = refl
 has_more h false e = e
 
-has_none : (h b : Bool) → elim b as (λ x. Bool) [ true ↦ true | false ↦ h ] ≡ false → (b ≡ false) × (h ≡ false)
+pub has_none : (h b : Bool) → elim b as (λ x. Bool) [ true ↦ true | false ↦ h ] ≡ false → (b ≡ false) × (h ≡ false)
 has_none h true e = absurd (false≢true (sym e))
 has_none h false e = (refl, e)
 
-none_found : (name : Text) (f : Fields) → has_field name f ≡ false → found name f ≡ None
+pub none_found : (name : Text) (f : Fields) → has_field name f ≡ false → found name f ≡ None
 none_found name end e = refl
 none_found name (field n w rest) e =
     let parts = has_none (has_field name rest) (same_text n name) e in
@@ -185,7 +185,7 @@ module _ (name : Text) (v : Value) where
       go true i = refl
       go false i = ap (λ h. elim (same_text n m) as (λ x. Bool) [ true ↦ true | false ↦ h ]) i
 
-  replaced_count : (f : Fields) → field_count (replaced name v f) ≡ field_count f
+  pub replaced_count : (f : Fields) → field_count (replaced name v f) ≡ field_count f
   replaced_count end = refl
   replaced_count (field n w rest) = go (same_text n name) (replaced_count rest)
     where
@@ -201,7 +201,7 @@ module _ (name : Text) (v : Value) where
       go true i = found_past v (found m (field n w rest)) (same_text name m) (text_other m name e)
       go false i = ap (λ o. elim (same_text n m) as (λ x. Option Value) [ true ↦ Some w | false ↦ o ]) i
 
-  inserted_count : (f : Fields) → field_count (inserted name v f) ≡ suc (field_count f)
+  pub inserted_count : (f : Fields) → field_count (inserted name v f) ≡ suc (field_count f)
   inserted_count end = refl
   inserted_count (field n w rest) = go (stands_before name n) (inserted_count rest)
     where
@@ -237,7 +237,7 @@ without_names name m (field n w rest) h = go (same_text n name) h (λ k. without
         own true k = refl
         own false k = i k
 
-without_count : (name : Text) (f : Fields) → has_field name f ≡ true → field_count f ≡ suc (field_count (without_field name f))
+pub without_count : (name : Text) (f : Fields) → has_field name f ≡ true → field_count f ≡ suc (field_count (without_field name f))
 without_count name end h = absurd (false≢true h)
 without_count name (field n w rest) h = go (same_text n name) refl (λ k. without_count name rest k)
   where
@@ -246,7 +246,7 @@ without_count name (field n w rest) h = go (same_text n name) refl (λ k. withou
     go true e i = refl
     go false e i = ap suc (i (sym (has_past (has_field name rest) (same_text n name) e) ∙ h))
 
-without_none : (name : Text) (f : Fields) → has_field name f ≡ false → without_field name f ≡ f
+pub without_none : (name : Text) (f : Fields) → has_field name f ≡ false → without_field name f ≡ f
 without_none name end h = refl
 without_none name (field n w rest) h =
     let parts = has_none (has_field name rest) (same_text n name) h in

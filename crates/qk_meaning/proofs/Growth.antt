@@ -8,18 +8,18 @@ use Rattle.std.proofs.lemmas.Bool.{false≢true, eq-eqb}
 use Rattle.std.proofs.lemmas.List.{append_assoc, append-nil, length-set, length-append, get_or-set_other, get_or_append_left}
 use Rattle.qk_meaning.specs.Writing.{Becoming, Becomes, Stays}
 use Rattle.qk_meaning.specs.Heap.{object_or_empty, object_at, object_kind}
-use Rattle.qk_meaning.specs.Value.{Text, Value, end}
+use Rattle.qk_meaning.specs.Value.{Text, Value, end, Site, Fields}
 use Rattle.qk_meaning.specs.World.{Loc, Object, Plain}
-use Rattle.qk_meaning.specs.Program.{Program}
+use Rattle.qk_meaning.specs.Program.{Program, captures_in}
 use Rattle.qk_meaning.specs.Doing.{Outcome, Gives, Stops, Doing, ◌>>=◌, after, put_back, state_left}
 use Rattle.qk_meaning.specs.Happening.{Happening, Did_log, Did_print, Hooked, Began, Left, The_task, Computing, Computed_so}
-use Rattle.qk_meaning.specs.Running.{Running, take_turn, turn_of, logs_told, becomes_so}
+use Rattle.qk_meaning.specs.Running.{Running, take_turn, turn_of, logs_told, becomes_so, becomes_by}
 use Rattle.qk_meaning.specs.Trace.{logged_in, printed_in}
 use Rattle.qk_meaning.specs.Setting.{called_anew}
 use Rattle.qk_meaning.specs.Evaluation.{entering}
 use Rattle.qk_meaning.specs.Expansion.{Met}
 use Rattle.qk_meaning.specs.Session.{Session, session_in, nothing_yet, runs}
-use Rattle.qk_meaning.specs.Execution.{take_or_mount}
+use Rattle.qk_meaning.specs.Execution.{props_become, take_or_mount}
 use Rattle.qk_meaning.specs.Manner.{whole}
 use Rattle.qk_meaning.specs.Item.{Event, Block, first_render, event, first_item, event_item}
 use Rattle.qk_meaning.specs.Laws as Laws
@@ -29,7 +29,10 @@ use Rattle.qk_meaning.specs.Laws_of_code.{Adds}
 use Rattle.qk_meaning.proofs.Traces.{logged_then, printed_then}
 use Rattle.qk_meaning.proofs.Running_laws.{Relation, Laws, Trace_laws, finds_reads, finds_tracked, Hooking_laws, hook_laws, all_tell_only, Kind_kept}
 use Rattle.qk_meaning.proofs.Meanings.{Enter_alike, enters_with, calls_anew}
-use Rattle.qk_meaning.proofs.Session_laws.{Session_relation, Session_laws, visits, first_renders, events}
+use Rattle.qk_meaning.specs.Same.{same}
+use Rattle.qk_meaning.specs.Laws_of_changes.{Logs_all, log_of_props}
+use Rattle.qk_meaning.proofs.Unlogged.{props_unlogged}
+use Rattle.qk_meaning.proofs.Session_laws.{props_kept, Session_relation, Session_laws, visits, first_renders, events}
 
 -- ---- what a trace tells
 
@@ -152,9 +155,10 @@ acted s a differing (Stays f) k = stays s
 pub trace_laws : Trace_laws Adding
 trace_laws = record { gives = λ a. stays; bind = λ {A} {B} {m} {m'} {f} {f'} p q. binds m m' f f' p q; asks_trace = λ f. stays }
 
-pub laws : Laws Adding
-laws =
+pub laws : (names : Site → List Text) → Laws Adding
+laws names =
     record {
+      names = names;
       gives = λ a. stays;
       faults = λ f. stays;
       ends = λ m. stays;
@@ -164,12 +168,23 @@ laws =
       asks = λ f e. stays;
       tells = λ f e q s. tells_quietly s (f s) (q s);
       makes = λ o s. adds_nothing s (record s { heap = s.heap ++ (o ∷ []) }) refl refl refl (omega (arith, length-append s.heap (o ∷ []))) (made_behind s.heap (o ∷ []));
-      acts = λ a change differing k s. acted s a differing (change (object_at s.heap a)) (k (object_at s.heap a));
+      acts = λ a change differing k q s. acted s a differing (change (object_at s.heap a)) (k (object_at s.heap a));
       logs = λ all s. logs_so s all;
       prints = λ line s. prints_so s line;
       sets = λ f s. adds_nothing s (record s { locals = f s.locals }) refl refl refl (omega arith) (λ a h. refl);
       by_turns = λ {A} {f} {f'} p s. p s.turns s.turns (omega arith) s;
     }
+
+pub named : (names : Site → List Text) → (laws names).names ≡ names
+unfolding laws
+named names = refl
+
+-- the setting of props only adds
+pub props_add : (program : Program) (a : ℕ) (given : Fields) (s : Running) → Adds s (state_left (becomes_by a (props_become (same (captures_in program)) given) (log_of_props (captures_in program) a given) s))
+props_add program a given s =
+    let names : Site → List Text = captures_in program in
+    (laws names).acts a (props_become (same names) given) (log_of_props names a given) (props_kept (same names) given)
+    (subst (λ others. Logs_all others a (props_become (same names) given) (log_of_props names a given)) (sym (named names)) (props_unlogged names a given)) s
 
 -- what is told here is neither logged nor printed
 tells_one : (s : Running) (h : Happening) → logged_in (h ∷ []) ≡ [] → printed_in (h ∷ []) ≡ [] → Adds s (record s { trace = s.trace ++ (h ∷ []) })
@@ -191,7 +206,7 @@ hooking_laws =
 pub adding : (program : Program) (d : ℕ) → Enter_alike Adding (entering program called_anew d) (entering program called_anew d)
 adding program zero mode running f arguments = stays
 adding program (suc d) mode running f arguments =
-    enters_with Adding laws (hook_laws Adding laws hooking_laws) program called_anew (calls_anew Adding (hook_laws Adding laws hooking_laws)) (entering program called_anew d) (entering program called_anew d) (adding program d) mode running f arguments
+    enters_with Adding (laws (captures_in program)) (hook_laws Adding (laws (captures_in program)) hooking_laws) program (named (captures_in program)) called_anew (calls_anew Adding (hook_laws Adding (laws (captures_in program)) hooking_laws)) (entering program called_anew d) (entering program called_anew d) (adding program d) mode running f arguments
 
 pub calls_add : Of_code.CallsAdd
 calls_add program levels mode under_way f arguments s = adding program levels mode under_way f arguments s
@@ -243,13 +258,13 @@ module _ (program : Program) (levels : ℕ) where
   enter = adding program levels
 
   visit : (met : Met) → Adding_there Value (take_or_mount program called_anew levels met) (take_or_mount program called_anew levels met)
-  visit = visits Adding laws hooking_laws Adding_there session_laws program called_anew levels levels enter
+  visit = visits Adding (laws (captures_in program)) hooking_laws Adding_there session_laws program (named (captures_in program)) called_anew levels levels enter
 
   event_adds : (e : Event) → Adding_there Block (event (whole program levels) e) (event (whole program levels) e)
-  event_adds = events Adding laws hooking_laws Adding_there session_laws program called_anew levels levels enter (take_or_mount program called_anew levels) (take_or_mount program called_anew levels) visit
+  event_adds = events Adding (laws (captures_in program)) hooking_laws Adding_there session_laws program called_anew levels levels enter (take_or_mount program called_anew levels) (take_or_mount program called_anew levels) visit
 
   render_adds : Adding_there Block (first_render (whole program levels)) (first_render (whole program levels))
-  render_adds = first_renders Adding laws hooking_laws Adding_there session_laws program called_anew levels levels enter (take_or_mount program called_anew levels) (take_or_mount program called_anew levels) visit
+  render_adds = first_renders Adding (laws (captures_in program)) hooking_laws Adding_there session_laws program called_anew levels levels enter (take_or_mount program called_anew levels) (take_or_mount program called_anew levels) visit
 
 pub items_tell : Laws.ItemsTell
 items_tell program limits The_render =

@@ -1,4 +1,5 @@
 -- The turns of a `while`: every bound on them that isn't below the turns that are left gives the same.
+use Rattle.qk_meaning.specs.Setting.{captures}
 use Rattle.std.specs.Prelude.{◌≡◌, refl, ℕ, zero, suc, ◌≤◌, Bool, true, false}
 use Rattle.std.proofs.Common.{sym, ◌∙◌, arith}
 use Rattle.qk_ast.specs.Names.{declared_in}
@@ -90,6 +91,6 @@ while_unfolds here spends condition span body s =
     let E : Meanings.Enter_alike None_more here.enter here.enter = λ mode running f arguments. none_more_of (here.enter mode running f arguments) (spends.calls mode running f arguments) in
     let C : (a : ℕ) (f : Value) → None_more Value (here.computed a f) (here.computed a f) = λ a f. none_more_of (here.computed a f) (spends.computeds a f) in
     unfolds (valued here (refer condition here)) (scoped (declared_in body) (all_ran body here))
-    (Meanings.valued_lem None_more Turns.laws Turns.by_hooks here here.enter here.computed E C {m' = refer condition here} (Meanings.refers None_more Turns.laws Turns.by_hooks here here.enter here.computed E C condition))
-    (L.scopes None_more Turns.laws (declared_in body) {m' = all_ran body here} (Meanings.all_run None_more Turns.laws Turns.by_hooks here here.enter here.computed E C body))
+    (Meanings.valued_lem None_more (Turns.laws (captures here)) Turns.by_hooks here (Turns.named (captures here)) here.enter here.computed E C {m' = refer condition here} (Meanings.refers None_more (Turns.laws (captures here)) Turns.by_hooks here (Turns.named (captures here)) here.enter here.computed E C condition))
+    (L.scopes None_more (Turns.laws (captures here)) (declared_in body) {m' = all_ran body here} (Meanings.all_run None_more (Turns.laws (captures here)) Turns.by_hooks here (Turns.named (captures here)) here.enter here.computed E C body))
     s

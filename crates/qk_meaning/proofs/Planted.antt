@@ -1,8 +1,15 @@
 -- Small rows, one for each wrong definition that is planted in must-fail/; the worked examples stand in a crate of their own.
-use Rattle.std.specs.Prelude.{◌≡◌, refl, pos, false, [], ◌∷◌, codes, Some}
+use Rattle.std.specs.Prelude.{◌≡◌, refl, pos, true, false, [], ◌∷◌, codes, Some}
 use Rattle.qk_meaning.specs.Value.{Value, Fields, Undefined, Fragment, Int, Words, Ref, Closure, end, field}
 use Rattle.qk_meaning.specs.World.{Signal, Prop, Tasked, Instance}
-use Rattle.qk_meaning.specs.Fault.{RenderWrite}
+use Rattle.qk_meaning.specs.Fault.{RenderWrite, NoProperty, TypeMismatch}
+use Rattle.qk_meaning.specs.Operators.{Fails}
+use Rattle.qk_meaning.specs.Heap.{Not_there, read_member}
+use Rattle.qk_meaning.specs.Methods.{keys_in}
+use Rattle.qk_meaning.specs.Doing.{Gives}
+use Rattle.qk_meaning.specs.Happening.{Signal_hook, Gives_nothing}
+use Rattle.qk_meaning.specs.Running.{Running, Outside}
+use Rattle.qk_meaning.specs.Hooks.{answered_hook}
 use Rattle.qk_meaning.specs.Writing.{in_the_way}
 use Rattle.qk_meaning.specs.Same.{same}
 use Rattle.qk_meaning.specs.Props.{fields_after}
@@ -46,3 +53,20 @@ plain_function = Closure (record { file = codes "root"; number = 1; dollar = fal
 
 first_place : unserialisable (λ site. []) (record { heap = []; log = []; lines = []; instances = showing Undefined ∷ showing plain_function ∷ showing plain_function ∷ [] }) ≡ Some (In_instance 1)
 first_place = refl
+
+-- at an address where nothing was made nothing is read, written or listed
+never_read : read_member [] (Ref 0) (Words (codes "a")) ≡ Not_there NoProperty
+never_read = refl
+
+never_written : in_the_way true [] (Ref 0) ≡ Some NoProperty
+never_written = refl
+
+never_listed : keys_in [] (Ref 0) ≡ Fails TypeMismatch
+never_listed = refl
+
+-- where hook calls are given nothing, nothing is told of one
+abbrev outside : Running
+outside = record { heap = []; log = []; lines = []; turns = 0; trace = []; locals = end; hooking = Outside; kept = [] }
+
+untold : answered_hook Signal_hook [] outside ≡ Gives Gives_nothing outside
+untold = refl

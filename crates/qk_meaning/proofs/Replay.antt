@@ -5,15 +5,15 @@ use Rattle.std.proofs.lemmas.Bool.{false≢true}
 use Rattle.std.proofs.lemmas.List.{append_assoc, append-nil, append_cancel_left}
 use Rattle.qk_meaning.specs.Writing.{Becoming, Becomes, Stays}
 use Rattle.qk_meaning.specs.Heap.{object_at}
-use Rattle.qk_meaning.specs.Value.{Value}
+use Rattle.qk_meaning.specs.Value.{Value, Site, Text}
 use Rattle.qk_meaning.specs.World.{Loc, Hook, Object}
-use Rattle.qk_meaning.specs.Program.{Program}
+use Rattle.qk_meaning.specs.Program.{Program, captures_in}
 use Rattle.qk_meaning.specs.Doing.{Outcome, Gives, Stops, Doing, ◌>>=◌, after, state_left, asked, fault, Faults}
 use Rattle.qk_meaning.specs.Happening.{Happening, Did_log, Did_print, Hooked, Began, Left, The_task, Computing, Computed_so, Hook_kind, Gives_nothing, Answered}
 use Rattle.qk_meaning.specs.Running.{Running, Hooking, Outside, Mounting, Again, Told, is_outside, take_turn, turn_of, logs_told, as_part, unhooked, heap_of, replaced_at, logged, becomes_so, becomes_by}
 use Rattle.qk_meaning.specs.Trace.{answers_in}
 use Rattle.qk_meaning.specs.Setting.{as_computed, called_anew}
-use Rattle.qk_meaning.specs.Hooks.{one_more, hook_made, answer_to, answered_hook}
+use Rattle.qk_meaning.specs.Hooks.{one_more, hook_made, answered_hook}
 use Rattle.qk_meaning.specs.Evaluation.{entering}
 use Rattle.qk_meaning.specs.Laws_of_code as Of_code
 use Rattle.qk_meaning.specs.Laws_of_code.{Replays}
@@ -187,9 +187,10 @@ trace_laws =
       asks_trace = λ {A} f. quiet _ _ (λ s. f s.trace) (λ s. s) (λ s. refl) (λ s. refl) (λ s. refl) (λ s h. refl);
     }
 
-pub laws : Laws Following
-laws =
+pub laws : (names : Site → List Text) → Laws Following
+laws names =
     record {
+      names = names;
       gives = λ {A} a. quiet (λ s. Gives a s) (λ s. Gives a s) (λ s. a) (λ s. s) (λ s. refl) (λ s. refl) (λ s. refl) (λ s h. refl);
       faults = λ {A} f. stops _ _ _ (λ s. refl);
       ends = λ {A} m. stops _ m _ (λ s. refl);
@@ -199,12 +200,16 @@ laws =
       asks = λ {A} f e. quiet _ _ f (λ s. s) (λ s. refl) (λ s. refl) (λ s. refl) (λ s h. ap (λ a. Gives a (record s { hooking = h })) (e s s.turns h s.trace s.kept));
       tells = λ f e q. tells_so _ _ f (λ s. record s { trace = s.trace ++ f s }) (λ s. skips_only (f s) (q s)) (λ s. refl) (λ s. refl) (λ s. refl) (λ s h. ap (λ all. Gives tt (record s { hooking = h; trace = s.trace ++ all })) (e s s.turns h s.trace s.kept));
       makes = λ o. quiet _ _ (λ s. length s.heap) (λ s. record s { heap = s.heap ++ (o ∷ []) }) (λ s. refl) (λ s. refl) (λ s. refl) (λ s h. refl);
-      acts = λ a change differing k. acts a change differing;
+      acts = λ a change differing k q. acts a change differing;
       logs = logs_so;
       prints = λ line. tells_so _ _ (λ s. Did_print line ∷ []) (λ s. record s { lines = s.lines ++ (line ∷ []); trace = s.trace ++ (Did_print line ∷ []) }) (λ s. refl) (λ s. refl) (λ s. refl) (λ s. refl) (λ s h. refl);
       sets = λ f. quiet _ _ (λ s. tt) (λ s. record s { locals = f s.locals }) (λ s. refl) (λ s. refl) (λ s. refl) (λ s h. refl);
       by_turns = λ {A} {f} {f'} p. record { inside = λ s o. (p s.turns s.turns (omega arith)).inside s o; replayed = λ s o. (p s.turns s.turns (omega arith)).replayed s o };
     }
+
+pub named : (names : Site → List Text) → (laws names).names ≡ names
+unfolding laws
+named names = refl
 
 -- ---- hook calls
 
@@ -302,9 +307,9 @@ hook_laws =
     }
 
 following : (program : Program) (d : ℕ) → Enter_alike Following (entering program called_anew d) (entering program called_anew d)
-following program zero mode running f arguments = laws.ends _
+following program zero mode running f arguments = (laws (captures_in program)).ends _
 following program (suc d) mode running f arguments =
-    enters_with Following laws hook_laws program called_anew (calls_anew Following hook_laws) (entering program called_anew d) (entering program called_anew d) (following program d) mode running f arguments
+    enters_with Following (laws (captures_in program)) hook_laws program (named (captures_in program)) called_anew (calls_anew Following hook_laws) (entering program called_anew d) (entering program called_anew d) (following program d) mode running f arguments
 
 pub hooks_replay : Of_code.HooksReplay
 hooks_replay program levels mode under_way f arguments s told rest o t =

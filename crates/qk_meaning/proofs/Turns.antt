@@ -3,11 +3,11 @@ use Rattle.std.specs.Prelude.{◌≡◌, refl, ℕ, zero, suc, ◌≤◌, ⊤, B
 use Rattle.std.proofs.Common.{ap, arith}
 use Rattle.qk_meaning.specs.Writing.{Becoming, Becomes, Stays}
 use Rattle.qk_meaning.specs.Heap.{object_at}
-use Rattle.qk_meaning.specs.Value.{Shown, Value, Ref, Closure, Lifted, none, end}
+use Rattle.qk_meaning.specs.Value.{Shown, Value, Ref, Closure, Lifted, none, end, Site, Text}
 use Rattle.qk_meaning.specs.World.{Props, Instance, Object, Loc, Read}
 use Rattle.qk_meaning.specs.Parts.{listed, zipped}
 use Rattle.qk_meaning.specs.Places.{same_path}
-use Rattle.qk_meaning.specs.Program.{Program}
+use Rattle.qk_meaning.specs.Program.{Program, captures_in}
 use Rattle.qk_meaning.specs.Doing.{Outcome, Gives, Stops, Doing, ◌>>=◌, ◌>>◌, after, put_back, chosen, give, asked, becomes}
 use Rattle.qk_meaning.specs.Happening.{At_site, Of_symbol, Entered, Happening}
 use Rattle.qk_meaning.specs.Running.{Running, Mode, Effect, Pure, Hooking, Mounting, Again, noted, take_turn, turn_of, told_apart, made_at, hooking_becomes, becomes_so}
@@ -96,9 +96,10 @@ acted a differing s old (Stays f) = tt
 trace_laws : Trace_laws None_more
 trace_laws = record { gives = λ a s. omega arith; bind = λ {A} {B} {m} {m'} {f} {f'} p q. binds left_in m m' f f' p q; asks_trace = λ f s. omega arith }
 
-pub laws : Laws None_more
-laws =
+pub laws : (names : Site → List Text) → Laws None_more
+laws names =
     record {
+      names = names;
       gives = λ a s. omega arith;
       faults = λ f s. tt;
       ends = λ m s. tt;
@@ -108,22 +109,26 @@ laws =
       asks = λ f e s. omega arith;
       tells = λ f e q s. omega arith;
       makes = λ o s. omega arith;
-      acts = λ a change differing k s. acted a differing s (object_at s.heap a) (change (object_at s.heap a));
+      acts = λ a change differing k q s. acted a differing s (object_at s.heap a) (change (object_at s.heap a));
       logs = λ all s. omega arith;
       prints = λ line s. omega arith;
       sets = λ f s. omega arith;
       by_turns = λ {A} {f} {f'} p s. p s.turns s.turns (omega arith) s;
     }
 
+pub named : (names : Site → List Text) → (laws names).names ≡ names
+unfolding laws
+named names = refl
+
 hooking_laws : Hooking_laws None_more
 hooking_laws = record { asks_hooking = λ s. omega arith; sets_hooking = λ f s. omega arith; tells_hook = λ kind arguments answered s. omega arith; begins_task = λ s. omega arith; leaves_task = λ s. omega arith; begins_computed = λ a s. omega arith; ends_computed = λ a v s. omega arith }
 
 pub by_hooks : Hook_laws None_more
-by_hooks = hook_laws None_more laws hooking_laws
+by_hooks = hook_laws None_more (laws (λ site. [])) hooking_laws
 
 calls : (program : Program) (d : ℕ) (mode : Mode) (running : List ℕ) (f : Value) (arguments : List Value) → None_more Value (entering program called_anew d mode running f arguments) (entering program called_anew d mode running f arguments)
 calls program zero mode running f arguments = λ s. tt
-calls program (suc d) mode running f arguments = enters_with None_more laws by_hooks program called_anew (calls_anew None_more by_hooks) (entering program called_anew d) (entering program called_anew d) (calls program d) mode running f arguments
+calls program (suc d) mode running f arguments = enters_with None_more (laws (captures_in program)) by_hooks program (named (captures_in program)) called_anew (calls_anew None_more by_hooks) (entering program called_anew d) (entering program called_anew d) (calls program d) mode running f arguments
 
 -- as do reads of computeds
 computeds : (program : Program) (d : ℕ) (running : List ℕ) (a : ℕ) (f : Value) → None_more Value (called_anew (entering program called_anew d) running a f) (called_anew (entering program called_anew d) running a f)
@@ -147,12 +152,12 @@ call_takes program zero mode running f arguments = λ s. tt
 call_takes program (suc d) mode running (Closure site scope hidden) arguments =
     let code = program.code site in
     let here = setting_of program called_anew (entering program called_anew d) mode running code in
-    behind_a_turn (◌>>◌ (noted (Entered (At_site site))) (inside code here scope arguments)) (behind_turn None_more laws by_hooks here (entering program called_anew d) (called_anew (entering program called_anew d) running) (calls program d) (computeds program d running) (At_site site) code scope arguments)
+    behind_a_turn (◌>>◌ (noted (Entered (At_site site))) (inside code here scope arguments)) (behind_turn None_more (laws (captures_in program)) by_hooks here (named (captures_in program)) (entering program called_anew d) (called_anew (entering program called_anew d) running) (calls program d) (computeds program d running) (At_site site) code scope arguments)
 call_takes program (suc d) mode running (Lifted symbol captured hidden) arguments =
     let code = program.lifted symbol in
     let here = setting_of program called_anew (entering program called_anew d) mode running code in
     let scope = zipped code.captures (listed captured) in
-    behind_a_turn (◌>>◌ (noted (Entered (Of_symbol symbol))) (inside code here scope arguments)) (behind_turn None_more laws by_hooks here (entering program called_anew d) (called_anew (entering program called_anew d) running) (calls program d) (computeds program d running) (Of_symbol symbol) code scope arguments)
+    behind_a_turn (◌>>◌ (noted (Entered (Of_symbol symbol))) (inside code here scope arguments)) (behind_turn None_more (laws (captures_in program)) by_hooks here (named (captures_in program)) (entering program called_anew d) (called_anew (entering program called_anew d) running) (calls program d) (computeds program d running) (Of_symbol symbol) code scope arguments)
 call_takes program (suc d) mode running f arguments = λ s. tt
 
 -- ---- sessions
@@ -214,7 +219,7 @@ module _ (program : Program) (levels : ℕ) where
   execution_takes hooking shown props =
       let call = entering program called_anew levels Pure [] (function_of shown) (Ref props ∷ []) in
       takes_then left_in (hooking_becomes (λ h. hooking)) (λ u. ◌>>=◌ (read_in call) finished) (λ s. omega arith)
-      (λ u. takes_first left_in (read_in call) finished (reads_take call (call_takes program levels Pure [] (function_of shown) (Ref props ∷ []))) (finishes None_more laws hooking_laws None_more_there session_laws))
+      (λ u. takes_first left_in (read_in call) finished (reads_take call (call_takes program levels Pure [] (function_of shown) (Ref props ∷ []))) (finishes None_more (laws (captures_in program)) hooking_laws None_more_there session_laws))
 
   mount_takes : (met : Met) → Takes left_over Value (mount program called_anew levels met)
   mount_takes met =
@@ -222,20 +227,20 @@ module _ (program : Program) (levels : ℕ) where
       let executes : List Instance → ℕ → Doing Session Execution = λ before props. runs (execution program called_anew levels (Mounting met.path before []) met.shown props) in
       takes_then left_over (asked (λ w. w.executed)) (λ before. ◌>>=◌ (runs (made_at (Props met.fields))) (λ props. ◌>>=◌ (executes before props) (λ e. stands true (new props e)))) (λ w. omega arith)
       (λ before. takes_then left_over (runs (made_at (Props met.fields))) (λ props. ◌>>=◌ (executes before props) (λ e. stands true (new props e)))
-      (running (made_at (Props met.fields)) (made_at (Props met.fields)) (laws.makes (Props met.fields)))
+      (running (made_at (Props met.fields)) (made_at (Props met.fields)) ((laws (captures_in program)).makes (Props met.fields)))
       (λ props. takes_first left_over (executes before props) (λ e. stands true (new props e))
       (running_takes (execution program called_anew levels (Mounting met.path before []) met.shown props) (execution_takes (Mounting met.path before []) met.shown props))
-      (λ e. stand None_more laws hooking_laws None_more_there session_laws true (new props e))))
+      (λ e. stand None_more (laws (captures_in program)) hooking_laws None_more_there session_laws true (new props e))))
 
   again_takes : (i : Instance) (met : Met) → Takes left_over Value (execute_again program called_anew levels i met)
   again_takes i met =
       let later : Execution → Instance = λ e. record i { view = e.view; reads = e.reads } in
       let executes = runs (execution program called_anew levels (Again i.hooks) met.shown i.props) in
       takes_then left_over (runs (props_set program called_anew levels i.props met.fields)) (λ u. ◌>>=◌ executes (λ e. stands false (later e)))
-      (running (props_set program called_anew levels i.props met.fields) (props_set program called_anew levels i.props met.fields) (sets_props None_more laws hooking_laws None_more_there session_laws program called_anew levels levels called i.props met.fields))
+      (running (props_set program called_anew levels i.props met.fields) (props_set program called_anew levels i.props met.fields) (sets_props None_more (laws (captures_in program)) hooking_laws None_more_there session_laws program (named (captures_in program)) called_anew levels levels called i.props met.fields))
       (λ u. takes_first left_over executes (λ e. stands false (later e))
       (running_takes (execution program called_anew levels (Again i.hooks) met.shown i.props) (execution_takes (Again i.hooks) met.shown i.props))
-      (λ e. stand None_more laws hooking_laws None_more_there session_laws false (later e)))
+      (λ e. stand None_more (laws (captures_in program)) hooking_laws None_more_there session_laws false (later e)))
 
   taken_takes : (o : Option Instance) (met : Met) → Takes left_over Value (taken program called_anew levels o met)
   taken_takes (Some i) met = again_takes i met
@@ -257,7 +262,7 @@ module _ (program : Program) (levels : ℕ) where
       takes_then left_over (becomes (λ w. record w { executed = []; mounted = false })) (λ u. ◌>>=◌ (◌>>=◌ (visit met) behind) ends_so) (λ w. omega arith)
       (λ u. takes_first left_over (◌>>=◌ (visit met) behind) ends_so
       (takes_first left_over (visit met) behind (visit_takes met)
-      (λ view. view_expands None_more laws hooking_laws None_more_there session_laws visit visit (visits None_more laws hooking_laws None_more_there session_laws program called_anew levels levels called) [] (children_of none nothing_given) view))
+      (λ view. view_expands None_more (laws (captures_in program)) hooking_laws None_more_there session_laws visit visit (visits None_more (laws (captures_in program)) hooking_laws None_more_there session_laws program (named (captures_in program)) called_anew levels levels called) [] (children_of none nothing_given) view))
       (λ nodes w. omega arith))
 
   -- a run of a task takes a turn

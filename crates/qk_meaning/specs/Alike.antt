@@ -43,9 +43,9 @@ pub data Locals_stand (t : Ties) (free captured : List Text) : List Text → Fie
 -- ---- what has happened
 
 pub data Whichs_stand (t : Ties) : Which → Which → Type 0 where
-  both_sites : {site : Site} → t.stays site ≡ true → Whichs_stand t (At_site site) (At_site (t.other site))
-  site_and_symbol : {site : Site} → t.lifts site ≡ true → Whichs_stand t (At_site site) (Of_symbol (t.symbol site))
-  both_symbols : {symbol : Text} → t.symbols ≡ true → Whichs_stand t (Of_symbol symbol) (Of_symbol symbol)
+  both_sites : {site : Site} → t.sites.stays site ≡ true → Whichs_stand t (At_site site) (At_site (t.sites.other site))
+  site_and_symbol : {site : Site} → t.sites.lifts site ≡ true → Whichs_stand t (At_site site) (Of_symbol (t.sites.symbol site))
+  both_symbols : {symbol : Text} → t.sites.symbols ≡ true → Whichs_stand t (Of_symbol symbol) (Of_symbol symbol)
 
 pub data Hook_answers_stand (t : Ties) : Hook_answer → Hook_answer → Type 0 where
   gives_value : {v w : Value} → Stands t v w → Hook_answers_stand t (Gives_value v) (Gives_value w)

@@ -1,17 +1,18 @@
 -- Lists of code, by one step for each member: what `Evaluation` says of a row, for whoever goes over a list.
-use Rattle.std.specs.Prelude.{List, [], ◌∷◌}
+use Rattle.std.specs.Prelude.{List, [], ◌∷◌, ◌++◌}
 use Rattle.qk_ast.specs.declared.Expr.{Expr, end_of-Link, more_of-Link}
 use Rattle.qk_ast.specs.declared.Field.{Field}
 use Rattle.qk_ast.specs.declared.Operand.{Operand}
 use Rattle.qk_ast.specs.declared.Stmt.{Stmt}
 use Rattle.qk_ast.specs.declared.Link.{Link}
+use Rattle.qk_ast.specs.Names.{declared_by}
 use Rattle.qk_meaning.specs.Value.{Text, Value, Fields, end, field}
 use Rattle.qk_meaning.specs.Operators.{binary, decides, text_of}
 use Rattle.qk_meaning.specs.Doing.{Doing, ◌>>=◌, give, chosen, each}
 use Rattle.qk_meaning.specs.Running.{Running, answered}
 use Rattle.qk_meaning.specs.Setting.{Setting}
 use Rattle.qk_meaning.specs.References.{Reference, valued}
-use Rattle.qk_meaning.specs.Flow.{Flow, Onward, unless_left}
+use Rattle.qk_meaning.specs.Flow.{Flow, Onward, scoped, unless_left}
 use Rattle.qk_meaning.specs.Evaluation.{refer, followed, ran}
 
 -- the value of an expression, and those of a list
@@ -61,3 +62,11 @@ statements_ran here [] = give Onward
 statements_ran here (statement ∷ rest) = do
   flow ← ran statement here
   unless_left flow (statements_ran here rest)
+
+-- the names that statements declare, and a block of them in a scope of its own
+abbrev pub declared_of : List Stmt → List Text
+declared_of [] = []
+declared_of (statement ∷ rest) = declared_by statement ++ declared_of rest
+
+abbrev pub block_ran : Setting → List Stmt → Doing Running Flow
+block_ran here statements = scoped (declared_of statements) (statements_ran here statements)

@@ -1,10 +1,16 @@
--- What each kind of change logs, in its order; these are the equations by which the heap of a program can be written.
-use Rattle.std.specs.Prelude.{ℕ, ◌≡◌, ◌<◌, Bool, true, false, not, ◌&&◌, List, [], ◌∷◌, ◌++◌, length, set, codes}
+-- What each kind of change logs, in its order; these are the equations by which the heap of a program can be written. What a change doesn't log is the same behind it.
+use Rattle.std.specs.Prelude.{ℕ, ◌≡◌, ◌<◌, Bool, true, false, not, ◌&&◌, List, [], ◌∷◌, ◌++◌, length, set, ⊤, codes}
+use Rattle.std.specs.List.{list_any}
 use Rattle.qk_meaning.specs.Value.{Text, Site, Value, Undefined, Fields, end, field}
-use Rattle.qk_meaning.specs.World.{Plain, Array, Signal, Key, Keys, Length, Index, Prop}
+use Rattle.qk_meaning.specs.World.{Object, Plain, Array, Signal, Loc, Key, Keys, Length, Index, Prop}
 use Rattle.qk_meaning.specs.Parts.{packed, nth, value_at, has_field, with_field, without_field}
 use Rattle.qk_meaning.specs.Same.{same}
-use Rattle.qk_meaning.specs.Changes.{unless_same, changed_in}
+use Rattle.qk_meaning.specs.Changes.{unless_same, changed_in, located}
+use Rattle.qk_meaning.specs.Places.{same_location}
+use Rattle.qk_meaning.specs.Writing.{Becoming, Becomes, Stays, written, deleted, pushed_on, items_left}
+use Rattle.qk_meaning.specs.Props.{props_log}
+use Rattle.qk_meaning.specs.Standing.{at_key, Same_standing}
+use Rattle.qk_meaning.specs.Execution.{fields_of, props_become}
 
 -- every value is the same as itself
 abbrev pub SameAsItself : Type 0
@@ -56,3 +62,33 @@ ItemPopped =
 -- a signal is written
 abbrev pub SignalWritten : Type 0
 SignalWritten = (captures : Site → List Text) (v w : Value) → changed_in captures (Signal v) (Signal w) ≡ unless_same captures v w (Prop (codes "value"))
+
+-- ---- what isn't logged
+
+-- behind what became of the object at an address the same stands at each of its keys that isn't logged
+abbrev pub Unlogged_same : (Site → List Text) → ℕ → (Object → Object → List Loc) → Object → Becoming → Type 0
+Unlogged_same captures a logs old (Becomes new) = (k : Key) → list_any (same_location (record { address = a; key = k })) (logs old new) ≡ false → Same_standing captures (at_key old k) (at_key new k)
+Unlogged_same captures a logs old (Stays f) = ⊤
+
+-- so it is behind a change of any object that logs this
+abbrev pub Logs_all : (Site → List Text) → ℕ → (Object → Becoming) → (Object → Object → List Loc) → Type 0
+Logs_all captures a change logs = (old : Object) → Unlogged_same captures a logs old (change old)
+
+-- what a change of code logs, and what the setting of props does
+abbrev pub log_of_change : (Site → List Text) → ℕ → Object → Object → List Loc
+log_of_change captures a old new = located a (changed_in captures old new)
+
+abbrev pub log_of_props : (Site → List Text) → ℕ → Fields → Object → Object → List Loc
+log_of_props captures a given old new = props_log (same captures) a (fields_of old) given
+
+-- all changes log whatever isn't the same behind them: properties written and deleted, indexes written, items more and less, and props that are set
+pub record All_log_all (captures : Site → List Text) (a : ℕ) : Type 0 where
+  pub written : (key v : Value) → Logs_all captures a (λ o. written o key v) (log_of_change captures a)
+  pub deleted : (key : Value) → Logs_all captures a (λ o. deleted o key) (log_of_change captures a)
+  pub pushed : (v : Value) → Logs_all captures a (pushed_on v) (log_of_change captures a)
+  pub left : (f : List Value → List Value) → Logs_all captures a (items_left f) (log_of_change captures a)
+  pub set : (given : Fields) → Logs_all captures a (props_become (same captures) given) (log_of_props captures a given)
+
+-- what a change doesn't log is the same behind it
+abbrev pub UnloggedIsSame : Type 0
+UnloggedIsSame = (captures : Site → List Text) (a : ℕ) → All_log_all captures a

@@ -1,5 +1,5 @@
 -- Laws of running code: it only adds, and a `while` is its first turn and the rest.
-use Rattle.std.specs.Prelude.{ℕ, Bool, true, false, ◌≡◌, ◌≤◌, List, ◌++◌, length, ◌<◌}
+use Rattle.std.specs.Prelude.{ℕ, false, ◌≡◌, ◌≤◌, List, ◌++◌, length, ◌<◌}
 use Rattle.qk_ast.specs.declared.Expr.{Expr}
 use Rattle.qk_ast.specs.declared.Stmt.{Stmt}
 use Rattle.qk_ast.specs.Names.{declared_in}

@@ -30,4 +30,4 @@ pub data Items_agree (t : Ties) : Outcome Session Block → Outcome Session Bloc
 -- two readings whose applications have one component play every event alike
 abbrev pub Events_agree : Ties → Program → Program → Type 0
 Events_agree t one other =
-    Shown_as t one.app other.app → (limits : Limits) (w v : World) (e : Event) → Worlds_stand t w v → Items_agree t (event_item one limits w e) (event_item other limits v e)
+    Shown_as t.sites one.app other.app → (limits : Limits) (w v : World) (e : Event) → Worlds_stand t w v → Items_agree t (event_item one limits w e) (event_item other limits v e)

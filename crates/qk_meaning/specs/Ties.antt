@@ -29,32 +29,39 @@ pub data Paired (p : Pairing) : ℕ → ℕ → Type 0 where
   old_pair : {a b : ℕ} → Among p.pairs a b → Paired p a b
   new_pair : {a b : ℕ} (k : ℕ) → a ≡ p.left_from + k → b ≡ p.right_from + k → Paired p a b
 
--- how a first reading and a second one are tied
-pub record Ties : Type 0 where
+-- how the sites and symbols of a first program are tied to those of a second one
+pub record Site_ties : Type 0 where
   -- the names that a site captures, and all the names that its arrow uses without declaring them
   pub captures : Site → List Text
   pub free : Site → List Text
-  -- the sites that are symbols in the second reading, and those that are sites there too
+  -- the sites that are symbols in the second program, and those that are sites there too
   pub lifts : Site → Bool
   pub symbol : Site → Text
   pub stays : Site → Bool
   pub other : Site → Site
-  -- the first reading has functions of symbols too
+  -- the first program has functions of symbols too
   pub symbols : Bool
   -- the names that the function of a symbol takes
   pub taken : Text → List Text
+
+-- how two readings are tied: by their programs, and from one pause to the next by a pairing of addresses
+pub record Ties : Type 0 where
+  pub sites : Site_ties
   pub pairing : Pairing
 
+abbrev pub ties_over : Site_ties → Pairing → Ties
+ties_over sites pairing = record { sites = sites; pairing = pairing }
+
 -- the scope has those of the arrow's names that the arrow captures, and no other of them
-abbrev pub Fits : Ties → Site → Fields → Type 0
+abbrev pub Fits : Site_ties → Site → Fields → Type 0
 Fits t site scope = (name : Text) → is_listed name (t.free site) ≡ true → has_field name scope ≡ is_listed name (t.captures site)
 
 -- as many values as the symbol's function takes
-abbrev pub Counted : Ties → Text → Values → Type 0
+abbrev pub Counted : Site_ties → Text → Values → Type 0
 Counted t symbol v = length (listed v) ≡ length (t.taken symbol)
 
 -- the same tag or Slot, or components that stand for one another; these capture nothing, and a site that stays is spelled the same on both sides
-pub data Shown_as (t : Ties) : Shown → Shown → Type 0 where
+pub data Shown_as (t : Site_ties) : Shown → Shown → Type 0 where
   an_element : {tag : Text} → Shown_as t (Element tag) (Element tag)
   a_fragment : Shown_as t Fragment Fragment
   a_slot : {name : Text} → Shown_as t (Slot name) (Slot name)
@@ -73,12 +80,12 @@ mutual
     ref : {a b : ℕ} → Paired t.pairing a b → Stands t (Ref a) (Ref b)
     items : {v w : Values} → All_stand t v w → Stands t (Items v) (Items w)
     fields : {v w : Fields} → Fields_stand t v w → Stands t (Record v) (Record w)
-    elem : {x y : Shown} {key : Option Text} {slot : Text} {f g : Fields} {v w : Values} → Shown_as t x y → Fields_stand t f g → All_stand t v w → Stands t (Elem x key slot f v) (Elem y key slot g w)
-    closure : {site : Site} {f g : Fields} {hidden : Bool} → t.stays site ≡ true → Fits t site f → Fits t site g →
-        All_stand t (packed (picked (t.captures site) f)) (packed (picked (t.captures site) g)) → Stands t (Closure site f hidden) (Closure (t.other site) g hidden)
-    by_symbol : {site : Site} {f : Fields} {v : Values} {hidden : Bool} → t.lifts site ≡ true → Fits t site f →
-        All_stand t (packed (picked (t.captures site) f)) v → Stands t (Closure site f hidden) (Lifted (t.symbol site) v hidden)
-    lifted : {symbol : Text} {v w : Values} {hidden : Bool} → t.symbols ≡ true → Counted t symbol v → All_stand t v w → Stands t (Lifted symbol v hidden) (Lifted symbol w hidden)
+    elem : {x y : Shown} {key : Option Text} {slot : Text} {f g : Fields} {v w : Values} → Shown_as t.sites x y → Fields_stand t f g → All_stand t v w → Stands t (Elem x key slot f v) (Elem y key slot g w)
+    closure : {site : Site} {f g : Fields} {hidden : Bool} → t.sites.stays site ≡ true → Fits t.sites site f → Fits t.sites site g →
+        All_stand t (packed (picked (t.sites.captures site) f)) (packed (picked (t.sites.captures site) g)) → Stands t (Closure site f hidden) (Closure (t.sites.other site) g hidden)
+    by_symbol : {site : Site} {f : Fields} {v : Values} {hidden : Bool} → t.sites.lifts site ≡ true → Fits t.sites site f →
+        All_stand t (packed (picked (t.sites.captures site) f)) v → Stands t (Closure site f hidden) (Lifted (t.sites.symbol site) v hidden)
+    lifted : {symbol : Text} {v w : Values} {hidden : Bool} → t.sites.symbols ≡ true → Counted t.sites symbol v → All_stand t v w → Stands t (Lifted symbol v hidden) (Lifted symbol w hidden)
 
   pub data All_stand (t : Ties) : Values → Values → Type 0 where
     none_stand : All_stand t none none
@@ -114,8 +121,8 @@ pub data Loc_stands (t : Ties) : Loc → Loc → Type 0 where
 pub record Apart (t : Ties) : Type 0 where
   pub one_right : (a b c : ℕ) → Paired t.pairing a b → Paired t.pairing a c → b ≡ c
   pub one_left : (a b c : ℕ) → Paired t.pairing a c → Paired t.pairing b c → a ≡ b
-  pub captured_alike : (s u : Site) → same_site s u ≡ true → t.captures s ≡ t.captures u
-  pub sites_one : (s u : Site) → t.stays s ≡ true → t.stays u ≡ true → same_site s u ≡ same_site (t.other s) (t.other u)
-  pub symbols_one : (s u : Site) → t.lifts s ≡ true → t.lifts u ≡ true → same_site s u ≡ same_text (t.symbol s) (t.symbol u)
-  pub kinds_apart : (s u : Site) → t.lifts s ≡ true → t.stays u ≡ true → (same_site s u ≡ false) × (same_site u s ≡ false)
-  pub no_both : (s : Site) → t.lifts s ≡ true → t.symbols ≡ true → ⊥
+  pub captured_alike : (s u : Site) → same_site s u ≡ true → t.sites.captures s ≡ t.sites.captures u
+  pub sites_one : (s u : Site) → t.sites.stays s ≡ true → t.sites.stays u ≡ true → same_site s u ≡ same_site (t.sites.other s) (t.sites.other u)
+  pub symbols_one : (s u : Site) → t.sites.lifts s ≡ true → t.sites.lifts u ≡ true → same_site s u ≡ same_text (t.sites.symbol s) (t.sites.symbol u)
+  pub kinds_apart : (s u : Site) → t.sites.lifts s ≡ true → t.sites.stays u ≡ true → (same_site s u ≡ false) × (same_site u s ≡ false)
+  pub no_both : (s : Site) → t.sites.lifts s ≡ true → t.sites.symbols ≡ true → ⊥

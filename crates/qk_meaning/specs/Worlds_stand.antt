@@ -58,7 +58,7 @@ pub data Hooks_stand (t : Ties) (b : Start) : Hook → Hook → Type 0 where
 -- instances of one path that stand for one another in all their parts
 pub record Instances_stand (t : Ties) (b : Start) (i j : Instance) : Type 0 where
   pub path : i.path ≡ j.path
-  pub component : Shown_as t i.component j.component
+  pub component : Shown_as t.sites i.component j.component
   pub props : Paired t.pairing i.props j.props
   pub hooks : Pairwise (Hooks_stand t b) i.hooks j.hooks
   pub view : Stands t i.view j.view

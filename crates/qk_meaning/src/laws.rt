@@ -2,7 +2,7 @@
 
 ghost use Rattle.qk_meaning.specs.Laws.{GreaterLimits, TwoLimits, OneRun, PlayedIsRun, CallsTakeTurns, PassesTakeTurns, TasksTakeTurns, RoundsAreEnough, NothingDue, ItemsTell, FrontsPlayed, FrontsRun, DueOverMore, PausesMeetNone, TreeIsPassed};
 ghost use Rattle.qk_meaning.specs.Laws_of_code.{CallsAdd, WhileUnfolds, HooksReplay};
-ghost use Rattle.qk_meaning.specs.Laws_of_changes.{SameAsItself, PropertyWritten, PropertyDeleted, IndexWritten, ItemPushed, ItemPopped, SignalWritten};
+ghost use Rattle.qk_meaning.specs.Laws_of_changes.{SameAsItself, PropertyWritten, PropertyDeleted, IndexWritten, ItemPushed, ItemPopped, SignalWritten, UnloggedIsSame};
 
 /// Where an item doesn't end at some limits of turns and depth, it gives the same at all greater ones.
 pub fn greater_limits()
@@ -127,4 +127,9 @@ pub fn item_popped()
 /// What the writing of a signal logs.
 pub fn signal_written()
     ensures { SignalWritten }
+{}
+
+/// What a change doesn't log is the same behind it.
+pub fn unlogged_is_same()
+    ensures { UnloggedIsSame }
 {}

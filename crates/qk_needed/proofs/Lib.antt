@@ -13,4 +13,3 @@ pub mod Quiet_calls
 pub mod Settles
 pub mod Quiet_passes
 pub mod Resumed
-pub mod Unlogged

@@ -1,9 +1,9 @@
 -- What keeps the laws of code and sessions keeps the needed manner too: computeds that are called only where they must be, and passes that keep instances.
-use Rattle.std.specs.Prelude.{List, ◌≡◌, refl, ℕ, Bool, false, Option, Some, None, find}
+use Rattle.std.specs.Prelude.{◌≡◌, List, refl, ℕ, Bool, false, Option, Some, None, find}
 use Rattle.qk_meaning.specs.Value.{Value}
 use Rattle.qk_meaning.specs.World.{Instance}
 use Rattle.qk_meaning.specs.Places.{same_path}
-use Rattle.qk_meaning.specs.Program.{Program}
+use Rattle.qk_meaning.specs.Program.{Program, captures_in}
 use Rattle.qk_meaning.specs.Running.{Running, Kept_run, keeps_run}
 use Rattle.qk_meaning.specs.World.{Read}
 use Rattle.qk_meaning.specs.Doing.{Doing, asked}
@@ -34,14 +34,14 @@ calls_if_needed K laws hook_laws kept_laws enter enter' E under_way a f = laws.b
 
 module _ (R : Relation) (laws : Laws R) (hooking_laws : Hooking_laws R) (K : Session_relation) (session_laws : Session_laws R K)
     (keeps : Instance → Running → Bool) (ignores : (i : Instance) (s : Running) (t : ℕ) → keeps i (record s { turns = t }) ≡ keeps i s)
-    (program : Program) (levels levels' : ℕ) (E : Enter_alike R (entering program called_if_needed levels) (entering program called_if_needed levels')) where
+    (program : Program) (of_program : laws.names ≡ captures_in program) (levels levels' : ℕ) (E : Enter_alike R (entering program called_if_needed levels) (entering program called_if_needed levels')) where
   open session_laws use {bind, asks, runs_so}
 
   kept_alike : (o : Option Instance) (met : Met) → K Value (kept_or_mounted keeps program levels o met) (kept_or_mounted keeps program levels' o met)
   kept_alike (Some i) met =
-      bind (runs_so (S.sets_props R laws hooking_laws K session_laws program called_if_needed levels levels' E i.props met.fields)) (λ u. bind (asks (λ w. keeps i w.running) (λ w t. ignores i w.running t)) (λ kept.
-      S.choose R laws hooking_laws K session_laws kept (S.stand R laws hooking_laws K session_laws false i) (S.runs_again R laws hooking_laws K session_laws program called_if_needed levels levels' E i met)))
-  kept_alike None met = S.mounts R laws hooking_laws K session_laws program called_if_needed levels levels' E met
+      bind (runs_so (S.sets_props R laws hooking_laws K session_laws program of_program called_if_needed levels levels' E i.props met.fields)) (λ u. bind (asks (λ w. keeps i w.running) (λ w t. ignores i w.running t)) (λ kept.
+      S.choose R laws hooking_laws K session_laws kept (S.stand R laws hooking_laws K session_laws false i) (S.runs_again R laws hooking_laws K session_laws program of_program called_if_needed levels levels' E i met)))
+  kept_alike None met = S.mounts R laws hooking_laws K session_laws program of_program called_if_needed levels levels' E met
 
   -- and so is what is met in a pass
   pub visits : (met : Met) → K Value (keep_or_mount keeps program levels met) (keep_or_mount keeps program levels' met)

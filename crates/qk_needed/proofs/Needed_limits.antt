@@ -3,7 +3,7 @@ use Rattle.std.specs.Prelude.{◌≡◌, refl, ℕ, false, ◌∷◌}
 use Rattle.std.proofs.Common.{sym, ap}
 use Rattle.std.proofs.lemmas.Bool.{false≢true}
 use Rattle.qk_meaning.specs.Value.{Value}
-use Rattle.qk_meaning.specs.Program.{Program}
+use Rattle.qk_meaning.specs.Program.{Program, captures_in}
 use Rattle.qk_meaning.specs.Doing.{Outcome, Gives, Stops, Faults, Ends, has_ended}
 use Rattle.qk_meaning.specs.Evaluation.{entering}
 use Rattle.qk_meaning.specs.Expansion.{Met}
@@ -36,19 +36,19 @@ same_seen turns turns' (Stops Ends w) o' r n = absurd (false≢true (sym n))
 
 module _ (program : Program) (small great : Limits) (h : Within small great) where
   enter : Enter_alike Budget.Kept (entering program called_if_needed small.levels) (entering program called_if_needed great.levels)
-  enter = Budget.more_budget program called_if_needed (calls_if_needed Budget.Kept Budget.laws (hook_laws Budget.Kept Budget.laws Budget.hooking_laws) runs_are_kept) small.levels great.levels h.levels
+  enter = Budget.more_budget program called_if_needed (calls_if_needed Budget.Kept (Budget.laws (captures_in program)) (hook_laws Budget.Kept (Budget.laws (captures_in program)) Budget.hooking_laws) runs_are_kept) small.levels great.levels h.levels
 
   visit : (met : Met) → Limits.Kept Value (keep_or_mount isn't_stale program small.levels met) (keep_or_mount isn't_stale program great.levels met)
-  visit = visits Budget.Kept Budget.laws Budget.hooking_laws Limits.Kept Limits.laws isn't_stale (λ i s t. refl) program small.levels great.levels enter
+  visit = visits Budget.Kept (Budget.laws (captures_in program)) Budget.hooking_laws Limits.Kept Limits.laws isn't_stale (λ i s t. refl) program (Budget.named (captures_in program)) small.levels great.levels enter
 
   event_agrees : (n : Needed_world) (e : Event) → Agreeing.Agree Limits.left_in with_turns small.turns great.turns (needed_event_item program small n e) (needed_event_item program great n e)
   event_agrees n e =
-      S.events Budget.Kept Budget.laws Budget.hooking_laws Limits.Kept Limits.laws program called_if_needed small.levels great.levels enter
+      S.events Budget.Kept (Budget.laws (captures_in program)) Budget.hooking_laws Limits.Kept Limits.laws program called_if_needed small.levels great.levels enter
       (keep_or_mount isn't_stale program small.levels) (keep_or_mount isn't_stale program great.levels) visit e (needed_session n small.turns) great.turns h.turns
 
   render_agrees : Agreeing.Agree Limits.left_in with_turns small.turns great.turns (needed_first_item program small) (needed_first_item program great)
   render_agrees =
-      S.first_renders Budget.Kept Budget.laws Budget.hooking_laws Limits.Kept Limits.laws program called_if_needed small.levels great.levels enter
+      S.first_renders Budget.Kept (Budget.laws (captures_in program)) Budget.hooking_laws Limits.Kept Limits.laws program called_if_needed small.levels great.levels enter
       (keep_or_mount isn't_stale program small.levels) (keep_or_mount isn't_stale program great.levels) visit (needed_session at_first small.turns) great.turns h.turns
 
 pub needed_greater_limits : NeededGreaterLimits

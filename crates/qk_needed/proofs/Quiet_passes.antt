@@ -15,19 +15,17 @@ use Rattle.qk_meaning.specs.Doing.{Doing, Outcome, Gives, Stops, ◌>>=◌, ◌>
 use Rattle.qk_meaning.specs.Happening.{Happening, Entered, Which, At_site, Of_symbol}
 use Rattle.qk_meaning.specs.Running.{Running, Pure, Outside, Hooking, Again, Mounting, noted, turn_of, unless_fault, hooking_becomes}
 use Rattle.qk_meaning.specs.Trace.{entries, own_reads}
-use Rattle.qk_meaning.specs.Setting.{setting_of}
+use Rattle.qk_meaning.specs.Setting.{setting_of, captures}
 use Rattle.qk_meaning.specs.Evaluation.{inside, entering}
 use Rattle.qk_meaning.specs.Laws_of_code.{Adds}
 use Rattle.qk_meaning.specs.Expansion.{Met, Nodes, expand_app}
-use Rattle.qk_meaning.specs.Props.{props_log}
 use Rattle.qk_meaning.specs.Session.{Session, runs}
-use Rattle.qk_meaning.specs.Execution.{function_of, Execution, made_hooks, fields_of, props_become, finished, stands, execution, mount, props_set, run_again}
+use Rattle.qk_meaning.specs.Execution.{function_of, Execution, made_hooks, finished, stands, execution, mount, props_set, run_again}
 use Rattle.qk_meaning.specs.Settling.{pass}
 use Rattle.qk_needed.specs.Needed.{called_if_needed, keep_or_run, kept_or_mounted, keep_or_mount, isn't_stale, needed}
 use Rattle.qk_needed.specs.Laws.{keeping, QuietPasses}
 use Rattle.qk_meaning.proofs.Running_laws.{hook_laws}
 use Rattle.qk_meaning.proofs.Meanings as Meanings
-use Rattle.qk_meaning.proofs.Session_laws.{props_kept}
 use Rattle.qk_meaning.proofs.Growth as Growth
 use Rattle.qk_meaning.proofs.Growth.{Adding}
 use Rattle.qk_needed.proofs.Found.{found_in}
@@ -98,7 +96,7 @@ call_enters program (suc d) (Closure site scope hidden) arguments s =
     let E = More.adding called_if_needed More.if_needed_adds program d in
     let here = setting_of program called_if_needed enter Pure [] code in
     behind_entering (At_site site) (inside code here scope arguments)
-    (Meanings.insides Adding Growth.laws (hook_laws Adding Growth.laws Growth.hooking_laws) here enter (called_if_needed enter []) E (More.if_needed_adds enter enter E []) code scope arguments) s
+    (Meanings.insides Adding (Growth.laws (captures here)) (hook_laws Adding (Growth.laws (captures here)) Growth.hooking_laws) here (Growth.named (captures here)) enter (called_if_needed enter []) E (More.if_needed_adds enter enter E []) code scope arguments) s
 call_enters program (suc d) (Lifted symbol captured hidden) arguments s =
     let code = program.lifted symbol in
     let enter = entering program called_if_needed d in
@@ -106,7 +104,7 @@ call_enters program (suc d) (Lifted symbol captured hidden) arguments s =
     let here = setting_of program called_if_needed enter Pure [] code in
     let scope = zipped code.captures (listed captured) in
     behind_entering (Of_symbol symbol) (inside code here scope arguments)
-    (Meanings.insides Adding Growth.laws (hook_laws Adding Growth.laws Growth.hooking_laws) here enter (called_if_needed enter []) E (More.if_needed_adds enter enter E []) code scope arguments) s
+    (Meanings.insides Adding (Growth.laws (captures here)) (hook_laws Adding (Growth.laws (captures here)) Growth.hooking_laws) here (Growth.named (captures here)) enter (called_if_needed enter []) E (More.if_needed_adds enter enter E []) code scope arguments) s
 call_enters program (suc d) f arguments s = tt
 
 -- ---- a pass: it mounts, or enters a function, or does what the other does
@@ -224,7 +222,7 @@ module _ (program : Program) (levels : ℕ) where
       quiet_binds (runs (props_set program called_if_needed levels i.props met.fields)) (runs (props_set program called_if_needed 0 i.props met.fields))
       (λ u. ◌>>=◌ (asked (λ w. isn't_stale i w.running)) (λ kept. chosen kept (stands false i) (run_again program called_if_needed levels i met)))
       (λ u. ◌>>=◌ (asked (λ w. true)) (λ kept. chosen kept (stands false i) (run_again program called_if_needed 0 i met)))
-      (same_code (props_set program called_if_needed levels i.props met.fields) (λ s. Growth.laws.acts i.props (props_become alike met.fields) (λ old new. props_log alike i.props (fields_of old) met.fields) (props_kept alike met.fields) s))
+      (same_code (props_set program called_if_needed levels i.props met.fields) (λ s. Growth.props_add program i.props met.fields s))
       (λ u w. kept_or_executed i met (isn't_stale i w.running) w)
 
   visit_quiet : (met : Met) → Quietly Value (keep_or_mount isn't_stale program levels met) (keep_or_mount (λ i s. true) program 0 met)

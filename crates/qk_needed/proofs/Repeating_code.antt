@@ -33,7 +33,8 @@ use Rattle.qk_meaning.specs.Hooks.{given_so, hook_called}
 use Rattle.qk_meaning.specs.Calls.{Callee, A_value, A_method, The_tracker, The_dollar, The_mark, A_hook, member_callee, callee, is_qrl, tracked, call, known_called}
 use Rattle.qk_meaning.specs.Flow.{Flow, Onward, Broke, Continued, Returned, opened, flow_value}
 use Rattle.qk_meaning.specs.Evaluation.{refer, followed, lifted_value, values, hole_texts, field_values, chained, markup, ran, all_ran, body_value, own_names, scope_of, parameters_bound, inside, entered, entered_with}
-use Rattle.qk_needed.specs.Deciding.{Standing, A_value as Stands, Some_names, A_length, at_key, stands_at, One_kind, two_plain, two_arrays, two_signals, one_computed, two_props, Kinds_agree, Writes_nothing}
+use Rattle.qk_meaning.specs.Standing.{Standing, A_value as Stands, Some_names, A_length, at_key, stands_at}
+use Rattle.qk_needed.specs.Deciding.{One_kind, two_plain, two_arrays, two_signals, one_computed, two_props, Kinds_agree, Writes_nothing}
 use Rattle.std.proofs.lemmas.Bool.{ltb-false, true≢false, false≢true}
 use Rattle.qk_needed.proofs.Repeating_laws as L
 use Rattle.qk_needed.proofs.Repeating_laws.{Names, Shared, Own, Relation, All_agree, Under, Laws}
@@ -541,7 +542,7 @@ module _ (outer : List ℕ) (G H : List Object) (K : Relation) (laws : Laws oute
       (◌>>=◌ (answered (keys_in H (Ref a))) (λ keys. ◌>>◌ (locations_read keys.1) (made_list there (as_values keys.0))))
   made_names a true m =
       subst (λ c. K Shared Value (◌>>=◌ (answered (object_keys a (object_at G a))) (λ keys. ◌>>◌ (locations_read keys.1) (made_list here (as_values keys.0))))
-          (◌>>=◌ (answered (elim c as (λ x. Answer (List Text × List Loc)) [ true ↦ object_keys a (object_at H a) | false ↦ Fails TypeMismatch ])) (λ keys. ◌>>◌ (locations_read keys.1) (made_list there (as_values keys.0))))) (sym (kinds a m).0)
+      (◌>>=◌ (answered (elim c as (λ x. Answer (List Text × List Loc)) [ true ↦ object_keys a (object_at H a) | false ↦ Fails TypeMismatch ])) (λ keys. ◌>>◌ (locations_read keys.1) (made_list there (as_values keys.0))))) (sym (kinds a m).0)
       (names_lem a (object_at G a) (object_at H a) refl refl (kinds a m).1)
   made_names a false m = stops _ _
 

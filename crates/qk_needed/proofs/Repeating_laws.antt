@@ -11,7 +11,8 @@ use Rattle.qk_meaning.specs.Happening.{Entered, Used, Computing, Computed_so, Be
 use Rattle.qk_meaning.specs.Hooks.{answered_hook}
 use Rattle.qk_meaning.specs.Running.{Running, Hooking, take_turn, locations_read, locals_become, hooking_becomes, answered, unless_fault, noted, heap_of}
 use Rattle.qk_meaning.specs.Flow.{Flow, Onward, Broke, Continued, Returned, opened, scoped, within, then_next, unless_left, repeated, repeated_for}
-use Rattle.qk_needed.specs.Deciding.{Makes_none, stands_at}
+use Rattle.qk_needed.specs.Deciding.{Makes_none}
+use Rattle.qk_meaning.specs.Standing.{stands_at}
 
 -- whether both see the same names and change them alike, or each leaves its own names as they were
 pub data Names : Type 0 where

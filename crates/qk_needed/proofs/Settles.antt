@@ -19,14 +19,12 @@ use Rattle.qk_meaning.specs.Setting.{Computed_reading, called_anew}
 use Rattle.qk_meaning.specs.Evaluation.{entering}
 use Rattle.qk_meaning.specs.Laws_of_code.{Adds}
 use Rattle.qk_meaning.specs.Expansion.{Met, Nodes, expand_app}
-use Rattle.qk_meaning.specs.Props.{props_log}
 use Rattle.qk_meaning.specs.Session.{Session, world_of, runs}
-use Rattle.qk_meaning.specs.Execution.{function_of, Execution, made_hooks, fields_of, props_become, finished, stands, execution, mount, props_set, run_again, taken, take_or_mount}
+use Rattle.qk_meaning.specs.Execution.{function_of, Execution, made_hooks, finished, stands, execution, mount, props_set, run_again, taken, take_or_mount}
 use Rattle.qk_meaning.specs.Manner.{Manner, whole}
 use Rattle.qk_meaning.specs.Settling.{Spot, first_due, pass, run_task, is_quiet, round, settled_within}
 use Rattle.qk_needed.specs.Needed.{logged_since, is_stale, called_if_needed, kept_or_mounted, keep_or_mount, isn't_stale, needed}
 use Rattle.qk_needed.specs.Laws.{None_stale, SettledBy, Settled}
-use Rattle.qk_meaning.proofs.Session_laws.{props_kept}
 use Rattle.qk_meaning.proofs.Growth as Growth
 use Rattle.qk_needed.proofs.Found.{found_in, news_behind}
 use Rattle.qk_needed.proofs.Quiet_calls as Quiet
@@ -223,7 +221,7 @@ module _ (log0 : List Loc) where
     props_fine : (i : Instance) (given : Fields) → Keeps (Unit {0}) (runs (props_set program computed levels i.props given))
     props_fine i given =
         let alike = same (captures_in program) in
-        run_left (props_set program computed levels i.props given) (λ s. Growth.laws.acts i.props (props_become alike given) (λ old new. props_log alike i.props (fields_of old) given) (props_kept alike given) s)
+        run_left (props_set program computed levels i.props given) (λ s. Growth.props_add program i.props given s)
 
     -- every instance is executed
     pub whole_fine : (met : Met) → Keeps Value (take_or_mount program computed levels met)

@@ -1,35 +1,15 @@
 -- What was read decides a value: words for two evaluations of the same function with the same arguments in two heaps.
-use Rattle.std.specs.Prelude.{ℕ, true, false, List, [], ◌∷◌, ◌++◌, length, ⊤, ◌≡◌}
+use Rattle.std.specs.Prelude.{ℕ, true, false, List, [], ◌∷◌, ◌++◌, ⊤, ◌≡◌}
 use Rattle.qk_meaning.specs.Value.{Text, Value}
-use Rattle.qk_meaning.specs.World.{Object, Plain, Array, Signal, Computed, Props, Key, Keys, Length, Index, Prop, Loc}
+use Rattle.qk_meaning.specs.World.{Object, Plain, Array, Signal, Computed, Props, Loc}
 use Rattle.qk_meaning.specs.Heap.{is_made, object_at}
-use Rattle.qk_meaning.specs.Parts.{listed, nth, value_at, names_of}
+use Rattle.qk_meaning.specs.Standing.{stands_at}
 use Rattle.qk_meaning.specs.Program.{Program}
 use Rattle.qk_meaning.specs.Doing.{Outcome, Gives, Stops, Faults, Ends}
 use Rattle.qk_meaning.specs.Happening.{Happening, Did_read, Entered, Used, Computing, Computed_so, Began, Left, Hooked, Hook_kind, Answered, Which, Part}
 use Rattle.qk_meaning.specs.Running.{Running, Mode, Effect, Pure, Track, Hooking, Outside, Mounting, Again, Told}
 use Rattle.qk_meaning.specs.Setting.{called_anew, is_running}
 use Rattle.qk_meaning.specs.Evaluation.{entering}
-
--- what stands at a location: a value, the names of a key list, a length, or nothing where no such location is
-pub data Standing : Type 0 where
-  A_value : Value → Standing
-  Some_names : List Text → Standing
-  A_length : ℕ → Standing
-  Nothing : Standing
-
-abbrev pub at_key : Object → Key → Standing
-at_key (Plain all) (Prop t) = A_value (value_at t all)
-at_key (Plain all) Keys = Some_names (names_of all)
-at_key (Props all) (Prop t) = A_value (value_at t all)
-at_key (Props all) Keys = Some_names (names_of all)
-at_key (Signal v) (Prop t) = A_value v
-at_key (Array all) (Index n) = A_value (nth (listed all) n)
-at_key (Array all) Length = A_length (length (listed all))
-at_key _ _ = Nothing
-
-abbrev pub stands_at : List Object → Loc → Standing
-stands_at heap l = at_key (object_at heap l.address) l.key
 
 -- objects of one kind; a computed's function never changes, so it belongs to the kind
 pub data One_kind : Object → Object → Type 0 where

@@ -21,7 +21,8 @@ use Rattle.qk_meaning.specs.Settling.{first_due, pass, settled}
 use Rattle.qk_meaning.specs.Item.{Event, Block, Limits, first_item, event_item}
 use Rattle.qk_needed.specs.Needed.{is_stale, last_run, unless_stale, manner_keeping, needed}
 use Rattle.qk_needed.specs.Needed_item.{Needed_world, resumed, left_by, needed_first_item, needed_event_item}
-use Rattle.qk_needed.specs.Deciding.{stands_at, One_kind}
+use Rattle.qk_needed.specs.Deciding.{One_kind}
+use Rattle.qk_meaning.specs.Standing.{stands_at}
 use Rattle.qk_needed.specs.Tidy.{Tidy, Tidy_all, Tidy_fields}
 
 -- ---- what settling leaves

@@ -3,4 +3,3 @@ pub mod Needed_item
 pub mod Deciding
 pub mod Tidy
 pub mod Laws
-pub mod Unlogged

@@ -3,7 +3,6 @@
 ghost use Rattle.qk_needed.specs.Deciding.{ReadsDecide};
 ghost use Rattle.qk_needed.specs.Laws.{Settled, ResumedIsFresh, QuietPasses, NeededGreaterLimits};
 ghost use Rattle.qk_needed.specs.Tidy.{SamesAreEqual};
-ghost use Rattle.qk_needed.specs.Unlogged.{UnloggedIsSame};
 
 /// Where a call gives a value in a mode in which nothing is written, the same call gives it, reads the same and enters the same in each heap of the same kinds
 /// in which the same stands at all that was read, unless it ends for its budget; also where other computeds are under way, as long as none of them was run.
@@ -34,9 +33,4 @@ pub fn quiet_passes()
 /// Where an item of which only what is needed is played doesn't end at some limits, it gives the same at all greater ones.
 pub fn needed_greater_limits()
     ensures { NeededGreaterLimits }
-{}
-
-/// What a change doesn't log is the same behind it: each property and index, the length, a signal's value.
-pub fn unlogged_is_same()
-    ensures { UnloggedIsSame }
 {}

@@ -70,7 +70,7 @@ module _ {t : Ties} {b : Start} where
 
 -- ---- the function of a component
 
-pub functions_stand : {t : Ties} {x y : Shown} → Shown_as t x y → Stands t (function_of x) (function_of y)
+pub functions_stand : {t : Ties} {x y : Shown} → Shown_as t.sites x y → Stands t (function_of x) (function_of y)
 functions_stand an_element = undefined
 functions_stand a_fragment = undefined
 functions_stand a_slot = undefined
@@ -120,7 +120,7 @@ module _ {t : Ties} (apart : Apart t) {b : Start} {K : Relation} (laws : Laws t 
   finished_lem h = bind (S.unless_same laws (child_faults h.given)) (λ x y d. bind made_hooks_now (λ hs hs' k. bind (hooks (λ x. Outside) (λ x. Outside) (λ x y k. both_outside)) (λ x y d.
       gives (record { view = h.given; hooks = k; reads = locations_alike apart h.reads }))))
 
-  pub execution_lem : {r : Reach} {old old' : Hooking} {x y : Shown} {p q : ℕ} → Hookings_stand t b old old' → Shown_as t x y → Paired t.pairing p q → K r _ _ (Executions_stand t b) (execution P computed levels old x p) (execution Q computed levels old' y q)
+  pub execution_lem : {r : Reach} {old old' : Hooking} {x y : Shown} {p q : ℕ} → Hookings_stand t b old old' → Shown_as t.sites x y → Paired t.pairing p q → K r _ _ (Executions_stand t b) (execution P computed levels old x p) (execution Q computed levels old' y q)
   execution_lem {old = old} {old' = old'} o s p =
       bind (hooks (λ h. old) (λ h. old') (λ x y k. o)) (λ x y d. bind (reads_lem (E.enters Pure no_more (functions_stand s) (one_more (ref p) no_more))) (λ run run' h. finished_lem h))
 

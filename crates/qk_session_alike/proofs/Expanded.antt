@@ -8,7 +8,7 @@ use Rattle.qk_meaning.specs.Fault.{NotText, TreeTooDeep}
 use Rattle.qk_meaning.specs.Markup.{key_of}
 use Rattle.qk_meaning.specs.Doing.{Why, Faults, Doing, ◌>>=◌, give, stopping, fault}
 use Rattle.qk_meaning.specs.Expansion.{Node, Nodes, joined, Placed, placed_item, placed_from, placed, slot_of, for_slot, step_name, further, Given, Met, Visit, Expands, in_order, text_nodes, wrapped, takes_step, leaf, slot_with, component_with, elem_with, item_with, expand_item, expand_app}
-use Rattle.qk_meaning.specs.Ties.{Ties, Shown_as, an_element, a_fragment, a_slot, a_component, a_symbol, own_symbol, Stands, undefined, null, truth, int, words, ref, items, fields, elem, closure, by_symbol, lifted, All_stand, none_stand, item_stands, Fields_stand, end_stands, Pairwise, no_more, one_more}
+use Rattle.qk_meaning.specs.Ties.{Ties, Site_ties, Shown_as, an_element, a_fragment, a_slot, a_component, a_symbol, own_symbol, Stands, undefined, null, truth, int, words, ref, items, fields, elem, closure, by_symbol, lifted, All_stand, none_stand, item_stands, Fields_stand, end_stands, Pairwise, no_more, one_more}
 use Rattle.qk_session_alike.specs.Trees_stand.{Node_stands, tagged, shows_text, inside, Nodes_stand, no_nodes_stand, node_stands, Placed_stand, placed_alike, Given_stand, nothing_stands, children_stand, Met_stand, met_alike, Named_alike}
 
 -- ---- items with their places
@@ -87,7 +87,7 @@ texts_stand : {t : Ties} (w : Text) → Nodes_stand t (text_nodes w) (text_nodes
 texts_stand [] = no_nodes_stand
 texts_stand (c ∷ more) = node_stands shows_text no_nodes_stand
 
-pub names_alike : {t : Ties} → Named_alike t → {x y : Shown} → Shown_as t x y → step_name x ≡ step_name y
+pub names_alike : {t : Site_ties} → Named_alike t → {x y : Shown} → Shown_as t x y → step_name x ≡ step_name y
 names_alike n an_element = refl
 names_alike n a_fragment = refl
 names_alike n a_slot = refl
@@ -108,7 +108,7 @@ pub record Steps {S S' : Type 0} (K : (A B : Type 0) → (A → B → Type 0) �
 pub record Visits_stand (t : Ties) {S S' : Type 0} (K : (A B : Type 0) → (A → B → Type 0) → Doing S A → Doing S' B → Type 0) (visit : Visit S) (visit' : Visit S') : Type 0 where
   pub visits : {m m' : Met} → Met_stand t m m' → K Value Value (Stands t) (visit m) (visit' m')
 
-module _ {t : Ties} (named : Named_alike t) {S S' : Type 0} {K : (A B : Type 0) → (A → B → Type 0) → Doing S A → Doing S' B → Type 0} (steps : Steps K) {visit : Visit S} {visit' : Visit S'} (seen : Visits_stand t K visit visit') where
+module _ {t : Ties} (named : Named_alike t.sites) {S S' : Type 0} {K : (A B : Type 0) → (A → B → Type 0) → Doing S A → Doing S' B → Type 0} (steps : Steps K) {visit : Visit S} {visit' : Visit S'} (seen : Visits_stand t K visit visit') where
   open steps use {gives, stops, bind}
 
   record Expands_stand (one : Expands S) (one' : Expands S') : Type 0 where
@@ -140,11 +140,11 @@ module _ {t : Ties} (named : Named_alike t) {S S' : Type 0} {K : (A B : Type 0) 
     slot_lem path name nothing_stands = gives no_nodes_stand
     slot_lem path name (children_stand h k) = in_orders e path k (slot_alike name (places h))
 
-    component_lem : (path : List Step) {g g' : Given} {x y : Shown} {f f' : Fields} {v v' : Values} → Given_stand t g g' → Shown_as t x y → Fields_stand t f f' → All_stand t v v' →
+    component_lem : (path : List Step) {g g' : Given} {x y : Shown} {f f' : Fields} {v v' : Values} → Given_stand t g g' → Shown_as t.sites x y → Fields_stand t f f' → All_stand t v v' →
         K Nodes Nodes (Nodes_stand t) (component_with visit one path g x f v) (component_with visit' one' path g' y f' v')
     component_lem path g s f v = bind (seen.visits (met_alike s f)) (λ x y h. wraps (λ v w k. inside k) (in_orders e path (children_stand v g) (places (item_stands h none_stand))))
 
-    elem_lem : (path : List Step) {g g' : Given} {x y : Shown} {f f' : Fields} {v v' : Values} → Given_stand t g g' → Shown_as t x y → Fields_stand t f f' → All_stand t v v' →
+    elem_lem : (path : List Step) {g g' : Given} {x y : Shown} {f f' : Fields} {v v' : Values} → Given_stand t g g' → Shown_as t.sites x y → Fields_stand t f f' → All_stand t v v' →
         K Nodes Nodes (Nodes_stand t) (elem_with visit one path g x f v) (elem_with visit' one' path g' y f' v')
     elem_lem path g an_element f v = wraps (λ v w k. tagged f k) (in_orders e path g (places v))
     elem_lem path g a_fragment f v = in_orders e path g (places v)
@@ -176,5 +176,5 @@ module _ {t : Ties} (named : Named_alike t) {S S' : Type 0} {K : (A B : Type 0) 
   expands zero = record { each = λ path {g} {g'} place {v} {v'} k h. subst (λ c. K Nodes Nodes (Nodes_stand t) (expand_item visit zero path g place v) (elim c as (λ y. Doing S' Nodes) [ true ↦ fault TreeTooDeep | false ↦ leaf v' ])) (steps_alike h) (too_deep (takes_step v) h) }
   expands (suc n) = record { each = λ path place k h. item_lem (expands n) path place k h }
 
-  pub apps_expand : {x y : Shown} → Shown_as t x y → K Nodes Nodes (Nodes_stand t) (expand_app visit x) (expand_app visit' y)
+  pub apps_expand : {x y : Shown} → Shown_as t.sites x y → K Nodes Nodes (Nodes_stand t) (expand_app visit x) (expand_app visit' y)
   apps_expand h = component_lem (expands 128) [] nothing_stands h end_stands none_stand

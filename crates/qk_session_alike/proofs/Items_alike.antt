@@ -77,7 +77,7 @@ views_stand {t} {b} {all} {all'} i = record { visits = λ k. by k }
     by : {m m' : Met} → Met_stand t m m' → Tree_doings Value Value (Stands t) (view_at all m) (view_at all' m')
     by (met_alike {path = path} s f) = view (found_alike path i)
 
-pub trees_stand : {t : Ties} → Named_alike t → {b : Start} {x y : Shown} (w v : World) → Shown_as t x y → Pairwise (Instances_stand t b) w.instances v.instances → Nodes_stand t (tree x w) (tree y v)
+pub trees_stand : {t : Ties} → Named_alike t.sites → {b : Start} {x y : Shown} (w v : World) → Shown_as t.sites x y → Pairwise (Instances_stand t b) w.instances v.instances → Nodes_stand t (tree x w) (tree y v)
 trees_stand named {x = x} {y = y} w v s i = nodes_stand (expand_app (view_at w.instances) x tt) (expand_app (view_at v.instances) y tt) (apps_expand named tree_steps (views_stand i) s tt tt)
 
 -- ---- worlds behind an item
@@ -172,7 +172,7 @@ given_text (Some w) = words
 records_stand : {t : Ties} (e : Event) → Pairwise (Stands t) (records_of e) (records_of e)
 records_stand e = one_more (fields (field_stands words (field_stands (given_text e.value) end_stands))) (one_more (fields (field_stands words (field_stands (given_text e.value) end_stands))) no_more)
 
-module _ (t : Ties) (P Q : Program) (apart : Apart t) (programs : Programs_stand P Q t) (named : Named_alike t) (app : Shown_as t P.app Q.app) (levels : ℕ) (b : Start) where
+module _ (t : Ties) (P Q : Program) (apart : Apart t) (programs : Programs_stand P Q t.sites) (named : Named_alike t.sites) (app : Shown_as t.sites P.app Q.app) (levels : ℕ) (b : Start) where
   agreeing : Sames_agree t (same (captures_in P)) (same (captures_in Q))
   agreeing = subst (λ c. Sames_agree t (same c) (same (captures_in Q))) (λ i site. sym (programs.captures site) i) (record { agree = λ h k. sames t apart (captures_in Q) programs.other_captures h k })
 

@@ -41,7 +41,7 @@ found_alike path no_more = none_found
 found_alike {t} {b} path (one_more {a = i} {b = j} {rest = all} {more = all'} h hs) =
     subst (λ p. Instance_found t b (find (λ i. same_path i.path path) (i ∷ all)) (cond (same_path p path) (Some j) (find (λ i. same_path i.path path) all'))) h.path (found_or (same_path i.path path) h (found_alike path hs))
 
-module _ {t : Ties} (apart : Apart t) (named : Named_alike t) {b : Start} (laws : Laws t b (Doings_stand t b)) (more : Asks_more t b (Doings_stand t b)) (P Q : Program) (computed : Computed_reading) (levels : ℕ)
+module _ {t : Ties} (apart : Apart t) (named : Named_alike t.sites) {b : Start} (laws : Laws t b (Doings_stand t b)) (more : Asks_more t b (Doings_stand t b)) (P Q : Program) (computed : Computed_reading) (levels : ℕ)
     (E : Enterings_stand t (Doings_stand t b) (entering P computed levels) (entering Q computed levels)) (sames : Sames_agree t (same (captures_in P)) (same (captures_in Q)))
     {K : Session_relation} (session : Session_laws t b K) where
   open session use {ran, log_lengths, turns_now, executed_now, instances_now, due_now, quiet_now, adds, begins, passes, puts}
@@ -82,7 +82,7 @@ module _ {t : Ties} (apart : Apart t) (named : Named_alike t) {b : Start} (laws 
   abbrev manner' : Manner
   manner' = record { program = Q; computed = computed; levels = levels; visit = take_or_mount Q computed levels }
 
-  module _ (app : Shown_as t P.app Q.app) where
+  module _ (app : Shown_as t.sites P.app Q.app) where
     pass_lem : K Nodes Nodes (Nodes_stand t) (pass manner) (pass manner')
     pass_lem = bind begins (λ x y d. bind (apps_expand named session.steps visits app) (λ v w h. bind passes (λ x y d. gives h)))
 

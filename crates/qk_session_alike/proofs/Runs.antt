@@ -50,7 +50,7 @@ record Other_from (t : Ties) (other : Program) (leaves : World → World) (w : W
   run : Run_from other leaves w script others
   alike : Pairwise (Entries_stand t) entries others
 
-module _ (t : Ties) (P Q : Program) (apart : Apart t) (programs : Programs_stand P Q t) (named : Named_alike t) (app : Shown_as t P.app Q.app) (leaves leaves' : World → World) (kept : Leaves_alike t leaves leaves') where
+module _ (t : Ties) (P Q : Program) (apart : Apart t) (programs : Programs_stand P Q t.sites) (named : Named_alike t.sites) (app : Shown_as t.sites P.app Q.app) (leaves leaves' : World → World) (kept : Leaves_alike t leaves leaves') where
   goes_on : {w : World} {script : List Line} {entries : List Entry} → Run_from P leaves w script entries → (v : World) → Worlds_stand t w v → Other_from t Q leaves' v script entries
   goes_on played_all v h = record { others = []; run = played_all; alike = no_more }
   goes_on (paused {w = w} r) v h = by (goes_on r (leaves' v) (kept w v h))

@@ -22,7 +22,7 @@ goes_on P Q leaves leaves' (Stops Ends w) (Stops why v) (both_stop e) p = one_mo
 goes_on P Q leaves leaves' (Gives x w) (Stops why v) h p = elim h [ ]
 goes_on P Q leaves leaves' (Stops why w) (Gives x v) h p = elim h [ ]
 
-module _ (t : Ties) (P Q : Program) (apart : Apart t) (programs : Programs_stand P Q t) (named : Named_alike t) (app : Shown_as t P.app Q.app) (leaves leaves' : World → World) (kept : Leaves_alike t leaves leaves') (limits : Limits) where
+module _ (t : Ties) (P Q : Program) (apart : Apart t) (programs : Programs_stand P Q t.sites) (named : Named_alike t.sites) (app : Shown_as t.sites P.app Q.app) (leaves leaves' : World → World) (kept : Leaves_alike t leaves leaves') (limits : Limits) where
   rests : (script : List Line) (w v : World) → Worlds_stand t w v → Pairwise (Entries_stand t) (plays_from P leaves limits script w) (plays_from Q leaves' limits script v)
   rests [] w v h = no_more
   rests (Pauses ∷ script) w v h = one_more (both_paused h) (rests script (leaves w) (leaves' v) (kept w v h))

@@ -14,12 +14,12 @@ use Rattle.qk_session_alike.specs.Trees_stand.{Named_alike}
 
 -- programs whose functions stand for one another play every event alike: to one block, and to worlds that stand for one another
 abbrev pub EventsAgree : Type 0
-EventsAgree = (t : Ties) (one other : Program) → Apart t → Programs_stand one other t → Named_alike t → Events_agree t one other
+EventsAgree = (t : Ties) (one other : Program) → Apart t → Programs_stand one other t.sites → Named_alike t.sites → Events_agree t one other
 
 -- and so the first render, where the first objects will be pairs
 abbrev pub FirstRendersAgree : Type 0
 FirstRendersAgree =
-    (t : Ties) (one other : Program) → Apart t → Programs_stand one other t → Named_alike t → Shown_as t one.app other.app → Heaps_stand t [] [] → (limits : Limits) →
+    (t : Ties) (one other : Program) → Apart t → Programs_stand one other t.sites → Named_alike t.sites → Shown_as t.sites one.app other.app → Heaps_stand t [] [] → (limits : Limits) →
     Items_agree t (first_item one limits) (first_item other limits)
 
 -- what is shown of an item is the same, and the worlds behind it stand for one another
@@ -36,7 +36,7 @@ Leaves_alike t leaves leaves' = (w v : World) → Worlds_stand t w v → Worlds_
 -- and so every script shows the same, at the same limits, up to the first fault or end
 abbrev pub ScriptsAgree : Type 0
 ScriptsAgree =
-    (t : Ties) (one other : Program) → Apart t → Programs_stand one other t → Named_alike t → Shown_as t one.app other.app → Heaps_stand t [] [] →
+    (t : Ties) (one other : Program) → Apart t → Programs_stand one other t.sites → Named_alike t.sites → Shown_as t.sites one.app other.app → Heaps_stand t [] [] →
     (leaves leaves' : World → World) → Leaves_alike t leaves leaves' → (limits : Limits) (script : List Line) →
     Pairwise (Entries_stand t) (plays one leaves limits script) (plays other leaves' limits script)
 
@@ -49,5 +49,5 @@ pub record Other_run (t : Ties) (other : Program) (leaves : World → World) (sc
 -- and so each run of the one has such a run of the other, whatever the limits
 abbrev pub RunsAgree : Type 0
 RunsAgree =
-    (t : Ties) (one other : Program) → Apart t → Programs_stand one other t → Named_alike t → Shown_as t one.app other.app → Heaps_stand t [] [] →
+    (t : Ties) (one other : Program) → Apart t → Programs_stand one other t.sites → Named_alike t.sites → Shown_as t.sites one.app other.app → Heaps_stand t [] [] →
     (leaves leaves' : World → World) → Leaves_alike t leaves leaves' → (script : List Line) (entries : List Entry) → Run one leaves script entries → Other_run t other leaves' script entries

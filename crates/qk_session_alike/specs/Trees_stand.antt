@@ -4,7 +4,7 @@ use Rattle.qk_meaning.specs.Value.{Text, Site, Shown, Value, Values, Fields}
 use Rattle.qk_meaning.specs.World.{Place, Step}
 use Rattle.qk_meaning.specs.Program.{symbol_of}
 use Rattle.qk_meaning.specs.Expansion.{Node, Tagged, Shows, Inside, Nodes, no_nodes, node, Placed, Given, nothing_given, children_of, Met}
-use Rattle.qk_meaning.specs.Ties.{Ties, Shown_as, Stands, All_stand, Fields_stand}
+use Rattle.qk_meaning.specs.Ties.{Ties, Site_ties, Shown_as, Stands, All_stand, Fields_stand}
 
 mutual
   -- trees are alike but for what stands for one another in their attributes
@@ -27,8 +27,8 @@ pub data Given_stand (t : Ties) : Given → Given → Type 0 where
 
 -- components at one path
 pub data Met_stand (t : Ties) : Met → Met → Type 0 where
-  met_alike : {path : List Step} {x y : Shown} {f g : Fields} → Shown_as t x y → Fields_stand t f g → Met_stand t (record { path = path; shown = x; fields = f }) (record { path = path; shown = y; fields = g })
+  met_alike : {path : List Step} {x y : Shown} {f g : Fields} → Shown_as t.sites x y → Fields_stand t f g → Met_stand t (record { path = path; shown = x; fields = f }) (record { path = path; shown = y; fields = g })
 
 -- a component that is a symbol in the second reading has one name in paths on both sides: its symbol
-pub record Named_alike (t : Ties) : Type 0 where
+pub record Named_alike (t : Site_ties) : Type 0 where
   pub lifted : (site : Site) → t.lifts site ≡ true → symbol_of site ≡ t.symbol site

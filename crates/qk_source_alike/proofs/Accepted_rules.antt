@@ -8,12 +8,12 @@ use Rattle.qk_ast.specs.Uses.{captures_of}
 use Rattle.qk_meaning.specs.Making.{root_shown}
 use Rattle.qk_meaning.specs.Roots.{root_of}
 use Rattle.qk_meaning.specs.Readings.{lifted_shown, lifted_root}
-use Rattle.qk_meaning.specs.Ties.{Ties, Pairing, Shown_as, a_fragment, Apart, Pairwise}
+use Rattle.qk_meaning.specs.Ties.{Ties, Site_ties, Pairing, Shown_as, a_fragment, Apart, Pairwise}
 use Rattle.qk_alike.specs.Meanings_stand.{Roots_stand, shows}
 use Rattle.qk_alike.proofs.Sames.{not_both}
 use Rattle.qk_source_alike.specs.Accepted.{Accepted, lifts_in_source, stays_in_source}
 use Rattle.qk_alike.specs.Pairings.{One_to_one}
-use Rattle.qk_source_alike.specs.Source_rules.{source_ties, Source_rules}
+use Rattle.qk_source_alike.specs.Source_rules.{source_ties, source_sites, Source_rules}
 use Rattle.qk_source_alike.specs.Laws.{AcceptedAgree, AcceptedAppsStand, AcceptedEventsAgree, AcceptedScriptsAgree, AcceptedRunsAgree, all_new}
 use Rattle.qk_source_alike.proofs.Arrows_found.{inner, tracks}
 use Rattle.qk_source_alike.proofs.Symbols.{spelled_back, site_is_same, symbols_one, kinds_apart}
@@ -49,7 +49,7 @@ module _ (modules : List Named_module) (accepted : Accepted modules) (pairing : 
   rules = record {
     inner = inner modules accepted;
     tracks = tracks modules accepted;
-    roots = roots_alike modules accepted pairing;
+    roots = roots_alike modules accepted;
     lifted = λ s h. ap (code_of modules) (spelled_back s h);
     apart = apart;
   }
@@ -57,18 +57,18 @@ module _ (modules : List Named_module) (accepted : Accepted modules) (pairing : 
 pub accepted_agree : AcceptedAgree
 accepted_agree modules accepted pairing one b computed alike = scopes_agree modules lifts_in_source stays_in_source pairing b computed (rules modules accepted pairing one) alike
 
-shown_alike : (t : Ties) (r : Root) → Roots_stand t r (lifted_root r) → Shown_as t (root_shown r) (lifted_shown (root_shown r))
+shown_alike : (t : Site_ties) (r : Root) → Roots_stand t r (lifted_root r) → Shown_as t (root_shown r) (lifted_shown (root_shown r))
 shown_alike t (Framework name) h = a_fragment
 shown_alike t (Holds v) h = a_fragment
 shown_alike t Unknown h = a_fragment
 shown_alike t (Shows x) (shows h) = h
 
 pub accepted_apps_stand : AcceptedAppsStand
-accepted_apps_stand modules accepted pairing = shown_alike (source_ties modules lifts_in_source stays_in_source pairing) (root_of modules (codes "root") (codes "App")) (roots_alike modules accepted pairing (codes "root") (codes "App"))
+accepted_apps_stand modules accepted pairing = shown_alike (source_sites modules lifts_in_source stays_in_source) (root_of modules (codes "root") (codes "App")) (roots_alike modules accepted (codes "root") (codes "App"))
 
 -- ---- sessions
 
-names_alike : (modules : List Named_module) (pairing : Pairing) → Named_alike (source_ties modules lifts_in_source stays_in_source pairing)
+names_alike : (modules : List Named_module) (pairing : Pairing) → Named_alike (source_ties modules lifts_in_source stays_in_source pairing).sites
 names_alike modules pairing = record { lifted = λ s h. refl }
 
 pub accepted_events_agree : AcceptedEventsAgree
@@ -88,7 +88,7 @@ module _ (modules : List Named_module) (accepted : Accepted modules) where
   one : One_to_one all_new
   one = pairs_one_to_one all_new all_apart
 
-  stand : Programs_stand (program_of modules) (captured_program_of modules) t
+  stand : Programs_stand (program_of modules) (captured_program_of modules) t.sites
   stand = programs modules lifts_in_source stays_in_source all_new (rules modules accepted all_new one)
 
   heaps : Heaps_stand t [] []

@@ -19,7 +19,7 @@ use Rattle.qk_meaning.specs.Alike.{Locals_stand, Reach, deeper, is_local}
 use Rattle.qk_meaning.specs.Program.{Program}
 use Rattle.qk_meaning.specs.Setting.{has_tracker}
 use Rattle.qk_meaning.specs.Sites.{code_from}
-use Rattle.qk_meaning.specs.Ties.{Stands, Ties}
+use Rattle.qk_meaning.specs.Ties.{Pairing, Site_ties, Stands, ties_over}
 use Rattle.qk_meaning.specs.Value.{Fields, Text}
 use Rattle.qk_source_alike.specs.Every.{Every}
 
@@ -164,9 +164,9 @@ pub used_inside : (e : Body) → U.body_uses e ≡ others_than (body_names e) (i
 used_inside (Body.Value' _ all) = others_none (U.all_uses all)
 used_inside (Body_block' _ all) = refl
 
-module _ (P Q : Program) (t : Ties) (file : Text) (Good : Found_arrow → Type 0) (roots : (name : Text) → Roots_stand t (P.root file name) (Q.root file name))
+module _ (P Q : Program) (t : Site_ties) (file : Text) (Good : Found_arrow → Type 0) (roots : (name : Text) → Roots_stand t (P.root file name) (Q.root file name))
     (makes : (a : Found_arrow) (r : Reach) → Good a → Reaches r (free_of a) → ((x : Text) → is_listed x (free_of a) ≡ true → is_listed x a.scope ≡ is_local r x) →
-    (f g : Fields) → Locals_stand t r.free r.captured r.own f g → Stands t (P.makes (P.site file a.place) f) (Q.makes (Q.site file a.place) g)) where
+    (p : Pairing) (f g : Fields) → Locals_stand (ties_over t p) r.free r.captured r.own f g → Stands (ties_over t p) (P.makes (P.site file a.place) f) (Q.makes (Q.site file a.place) g)) where
   same_body : (e : Body) (scope : List Text) (r : Reach) → Reaches r (inner_uses e) → Scoped r (around (body_names e) scope) → Every Good (A.body_arrows e scope) → C.Bodies_stand P Q t file file r e e
   same_body (Body.Value' _ (more_of-Expr e rest)) scope r h s g = C.value_bodies (same_expr P Q t file file Good roots makes e Unmarked scope r (lefts r (U.uses e) (U.all_uses rest) h) s (all_left (A.arrows e Unmarked scope) (A.all_arrows rest Unmarked scope) g))
   same_body (Body_block' _ all) scope r h s g = C.block_bodies (C.both_rows (same_stmts P Q t file file Good roots makes all (around (declared_in all) scope) r h s g))

@@ -23,7 +23,7 @@ use Rattle.qk_meaning.specs.Program.{Root, Framework, Holds, Shows}
 use Rattle.qk_meaning.specs.Sites.{site_of, arrow_of}
 use Rattle.qk_meaning.specs.Roots.{place_of, text_in, first_of, first_argument, symbol_named, called_item, item_root, found_item, imported, found_import, root_of}
 use Rattle.qk_meaning.specs.Readings.{lifted_root}
-use Rattle.qk_meaning.specs.Ties.{Ties, Pairing, Fits, words, closure, a_symbol, All_stand, none_stand}
+use Rattle.qk_meaning.specs.Ties.{Site_ties, ties_over, Fits, words, closure, a_symbol, All_stand, none_stand}
 use Rattle.qk_names.specs.Handed.{handed_in}
 use Rattle.qk_names.specs.Laws.{DollarSite}
 use Rattle.qk_names.proofs.Laws as names
@@ -31,7 +31,7 @@ use Rattle.qk_alike.specs.Meanings_stand.{Roots_stand, framework as framework_ro
 use Rattle.qk_alike.proofs.Sames.{not_both}
 use Rattle.qk_source_alike.specs.Every.{Every, none_of, all_of}
 use Rattle.qk_source_alike.specs.Accepted.{Accepted, lifts_in_source, stays_in_source}
-use Rattle.qk_source_alike.specs.Source_rules.{source_ties, Found_at}
+use Rattle.qk_source_alike.specs.Source_rules.{source_sites, Found_at}
 use Rattle.qk_source_alike.proofs.Membership.{nothing_in, first_in, later_in, front_in, behind_in}
 use Rattle.qk_source_alike.proofs.Kept_modules.{Kept_module, kept, none, kept_module}
 use Rattle.qk_source_alike.proofs.Arrows_found.{found_there, site_is}
@@ -85,9 +85,9 @@ item_listed [] i a c h = nothing_in i c
 item_listed (j ∷ items) i a (zero, l, e) h = front_in (arrows j.init Unmarked []) (item_arrows items) a (subst (λ x. Contains (arrows x.init Unmarked []) a) (sym e) h)
 item_listed (j ∷ items) i a (suc k, l, e) h = behind_in (arrows j.init Unmarked []) (item_arrows items) a (item_listed items i a (k, omega (arith, l), e) h)
 
-module _ (modules : List Named_module) (accepted : Accepted modules) (pairing : Pairing) where
-  abbrev t : Ties
-  t = source_ties modules lifts_in_source stays_in_source pairing
+module _ (modules : List Named_module) (accepted : Accepted modules) where
+  abbrev t : Site_ties
+  t = source_sites modules lifts_in_source stays_in_source
 
   abbrev Alike : Root → Type 0
   Alike r = Roots_stand t r (lifted_root r)
@@ -106,7 +106,7 @@ module _ (modules : List Named_module) (accepted : Accepted modules) (pairing : 
 
     -- a root arrow stays a site, and captures nothing
     kept_arrow : (a : Found_arrow) → Contains (item_arrows items) a → is_dollar a ≡ false → a.scope ≡ [] → Alike (Holds (Closure (site_of modules file a.place) end false))
-    kept_arrow a c d e = holds (closure (f.plain (ap (λ s. s.dollar) (site_is modules accepted file a c) ∙ d)) fits fits (subst (λ ns. All_stand t (packed (picked ns end)) (packed (picked ns end))) (sym nothing) none_stand))
+    kept_arrow a c d e = holds (λ p. closure (f.plain (ap (λ s. s.dollar) (site_is modules accepted file a c) ∙ d)) fits fits (subst (λ ns. All_stand (ties_over t p) (packed (picked ns end)) (packed (picked ns end))) (sym nothing) none_stand))
       where
         f : Found_at modules lifts_in_source stays_in_source file a
         f = found_there modules accepted file a c
@@ -125,7 +125,7 @@ module _ (modules : List Named_module) (accepted : Accepted modules) (pairing : 
             Alike (elim b as (λ y. Root) [ true ↦ Shows (Component (site_of modules file (place_of (first_argument links)))) | false ↦ elim c as (λ y. Root) [ true ↦ Shows (Lifted_component (symbol_named (first_argument links))) | false ↦ Holds (Words (text_in (first_argument links))) ] ])
         go true p c q = h p
         go false p true q = absurd (g p q)
-        go false p false q = holds words
+        go false p false q = holds (λ p. words)
 
     marked_dollar : (a : Found_arrow) → a.mark ≡ Marked → is_dollar a ≡ true
     marked_dollar a e = ap (λ m. elim m as (λ y. Bool) [ Unmarked ↦ false | _ ↦ true ]) e
@@ -151,7 +151,7 @@ module _ (modules : List Named_module) (accepted : Accepted modules) (pairing : 
         handed_so site = record { arrow = site.arrow; is = site.handed'; marked = site.marked; around = site.around_none; listed = site.listed }
     item_alike (Expr.Arrow' s (more_of-Arrow place params body r)) f d l =
         kept_arrow (record { place = place; scope = []; mark = Unmarked; params = params; body = body }) (l (record { place = place; scope = []; mark = Unmarked; params = params; body = body }) (first_in _ _)) refl refl
-    item_alike e f d l = holds (literal_stands t e)
+    item_alike e f d l = holds (λ p. literal_stands (ties_over t p) e)
 
     items_alike : (name : Text) (rest : List Item) → ((i : Item) → Contains rest i → Contains items i) → Alike (found_item modules file name rest)
     items_alike name [] h = unknown
@@ -169,7 +169,7 @@ module _ (modules : List Named_module) (accepted : Accepted modules) (pairing : 
   imported_alike source name h = go (same_text source framework) h
     where
       go : (b : Bool) → (b ≡ true → same_text name (codes "qrl") ≡ true → ⊥) → Alike (elim b as (λ y. Root) [ true ↦ Framework name | false ↦ found_item modules (source_module source) name (module_of modules (source_module source)).items ])
-      go true h = framework_root (called_itself name (h refl))
+      go true h = framework_root (λ p. called_itself name (h refl))
       go false h = items_alike (source_module source) name (module_of modules (source_module source)).items (λ i c. c)
 
   imports_alike : (file name : Text) (imports : List Import) → Every (No_qrl file (root_names Source file (module_of modules file))) imports → Alike (found_import modules file imports (module_of modules file).items name)

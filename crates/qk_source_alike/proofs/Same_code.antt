@@ -20,7 +20,7 @@ use Rattle.qk_ast.specs.Uses.{free_of}
 use Rattle.qk_meaning.specs.Alike.{Locals_stand, Reach, deeper, is_local, is_reached}
 use Rattle.qk_meaning.specs.Making.{root_shown}
 use Rattle.qk_meaning.specs.Program.{Program, Root}
-use Rattle.qk_meaning.specs.Ties.{Shown_as, Stands, Ties, a_fragment}
+use Rattle.qk_meaning.specs.Ties.{Pairing, Shown_as, Site_ties, Stands, a_fragment, ties_over}
 use Rattle.qk_meaning.specs.Value.{Fields, Text}
 use Rattle.qk_source_alike.specs.Every.{Every, none_of, all_of}
 
@@ -108,15 +108,15 @@ deepens_scope r names scope h x e =
     go true k = refl
     go false k = h x k
 
-shown_roots : (P Q : Program) {t : Ties} {x y : Root} → Roots_stand t x y → Shown_as t (root_shown x) (root_shown y)
+shown_roots : (P Q : Program) {t : Site_ties} {x y : Root} → Roots_stand t x y → Shown_as t (root_shown x) (root_shown y)
 shown_roots P Q (framework h) = a_fragment
 shown_roots P Q (holds h) = a_fragment
 shown_roots P Q (shows h) = h
 shown_roots P Q unknown = a_fragment
 
-module _ (P Q : Program) (t : Ties) (file file' : Text) (Good : Found_arrow → Type 0) (roots : (name : Text) → Roots_stand t (P.root file name) (Q.root file' name))
+module _ (P Q : Program) (t : Site_ties) (file file' : Text) (Good : Found_arrow → Type 0) (roots : (name : Text) → Roots_stand t (P.root file name) (Q.root file' name))
     (makes : (a : Found_arrow) (r : Reach) → Good a → Reaches r (free_of a) → ((x : Text) → is_listed x (free_of a) ≡ true → is_listed x a.scope ≡ is_local r x) →
-    (f g : Fields) → Locals_stand t r.free r.captured r.own f g → Stands t (P.makes (P.site file a.place) f) (Q.makes (Q.site file' a.place) g)) where
+    (p : Pairing) (f g : Fields) → Locals_stand (ties_over t p) r.free r.captured r.own f g → Stands (ties_over t p) (P.makes (P.site file a.place) f) (Q.makes (Q.site file' a.place) g)) where
   tags : (tag : Tag) → C.Tags_stand P Q t file file' tag tag
   tags (Tag.Element name) = C.element_tags
   tags (Tag.Component name) = C.component_tags (shown_roots P Q (roots name))

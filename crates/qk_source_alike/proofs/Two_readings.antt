@@ -18,9 +18,9 @@ use Rattle.qk_meaning.specs.Parts.{found, has_field, or_undefined, packed, picke
 use Rattle.qk_meaning.specs.Program.{symbol_of}
 use Rattle.qk_meaning.specs.Readings.{captured_function, captured_program_of, program_of}
 use Rattle.qk_meaning.specs.Sites.{arrow_of, code_of, site_of}
-use Rattle.qk_meaning.specs.Ties.{Fits, All_stand, Pairing, Stands, Ties, by_symbol, closure, item_stands, none_stand}
+use Rattle.qk_meaning.specs.Ties.{Fits, All_stand, Pairing, Site_ties, Stands, Ties, by_symbol, closure, item_stands, none_stand}
 use Rattle.qk_meaning.specs.Value.{Closure, Fields, Lifted, Site, Text, Value}
-use Rattle.qk_source_alike.specs.Source_rules.{source_ties, Found_at, Source_rules}
+use Rattle.qk_source_alike.specs.Source_rules.{source_sites, source_ties, Found_at, Source_rules}
 use Rattle.qk_source_alike.specs.Laws.{ScopesAgree}
 
 -- values of names that stand for one another
@@ -46,11 +46,11 @@ cut_value (n ∷ names) x g e = go (same_text n x) refl e (cut_value names x g)
     go true p e k = ap (λ z. value_at z g) ((bytes_eq-Decides n x).0 p)
     go false p e k = k e
 
-module _ (modules : List Named_module) (lifts stays : Site → Bool) (pairing : Pairing) (rules : Source_rules modules lifts stays pairing) where
+module _ (modules : List Named_module) (lifts stays : Site → Bool) (pairing : Pairing) where
   abbrev t : Ties
   t = source_ties modules lifts stays pairing
 
-  fit : (s : Site) (a : Found_arrow) → arrow_of modules s ≡ a → (f : Fields) → ((x : Text) → is_listed x (free_of a) ≡ true → has_field x f ≡ is_listed x (captures_of a)) → Fits t s f
+  fit : (s : Site) (a : Found_arrow) → arrow_of modules s ≡ a → (f : Fields) → ((x : Text) → is_listed x (free_of a) ≡ true → has_field x f ≡ is_listed x (captures_of a)) → Fits t.sites s f
   fit s a e f h x k = h x (subst (λ z. is_listed x (free_of z) ≡ true) e k) ∙ ap (λ z. is_listed x (captures_of z)) (sym e)
 
   made : (file : Text) (a : Found_arrow) (r : Reach) → Found_at modules lifts stays file a → Reaches r (free_of a) → ((x : Text) → is_listed x (free_of a) ≡ true → is_listed x a.scope ≡ is_local r x) →
@@ -86,15 +86,19 @@ module _ (modules : List Named_module) (lifts stays : Site → Bool) (pairing : 
           subst (λ b. Stands t (Closure s f false) (elim b as (λ y. Value) [ true ↦ Lifted (symbol_of s) (packed (picked (captures_of (arrow_of modules s)) g)) false | false ↦ Closure s (zipped (captures_of (arrow_of modules s)) (picked (captures_of (arrow_of modules s)) g)) false ])) (sym p)
           (closure (r p) (fit s a e f has) (λ x m. cut_held (captures_of (arrow_of modules s)) x g) (cut s e))
 
-  codes_stand : (s : Site) → Codes_stand (program_of modules) (captured_program_of modules) t (seen (code_of modules s) (free_of (arrow_of modules s))) (captures_of (arrow_of modules s)) (code_of modules s) (code_of modules s)
-  codes_stand s = same_codes (program_of modules) (captured_program_of modules) t s.file (Found_at modules lifts stays s.file) (rules.roots s.file) (made s.file) (arrow_of modules s) (rules.tracks s) (rules.inner s)
+module _ (modules : List Named_module) (lifts stays : Site → Bool) (pairing : Pairing) (rules : Source_rules modules lifts stays pairing) where
+  abbrev sites : Site_ties
+  sites = source_sites modules lifts stays
 
-  pub programs : Programs_stand (program_of modules) (captured_program_of modules) t
+  codes_stand : (s : Site) → Codes_stand (program_of modules) (captured_program_of modules) sites (seen (code_of modules s) (free_of (arrow_of modules s))) (captures_of (arrow_of modules s)) (code_of modules s) (code_of modules s)
+  codes_stand s = same_codes (program_of modules) (captured_program_of modules) sites s.file (Found_at modules lifts stays s.file) (rules.roots s.file) (λ a r at h l p. made modules lifts stays p s.file a r at h l) (arrow_of modules s) (rules.tracks s) (rules.inner s)
+
+  pub programs : Programs_stand (program_of modules) (captured_program_of modules) sites
   programs = record {
     captures = λ s. refl;
     other_captures = λ s l. refl;
     sites = λ s l. codes_stand s;
-    lifts = λ s l. subst (λ c. Codes_stand (program_of modules) (captured_program_of modules) t (seen (code_of modules s) (free_of (arrow_of modules s))) (captures_of (arrow_of modules s)) (code_of modules s) c) (sym (rules.lifted s l)) (codes_stand s);
+    lifts = λ s l. subst (λ c. Codes_stand (program_of modules) (captured_program_of modules) sites (seen (code_of modules s) (free_of (arrow_of modules s))) (captures_of (arrow_of modules s)) (code_of modules s) c) (sym (rules.lifted s l)) (codes_stand s);
     lifted_captures = λ s l. ap (λ c. c.captures) (rules.lifted s l);
     symbols = λ e. absurd (not_both (sym e));
     taken = λ e. absurd (not_both (sym e));

@@ -30,7 +30,7 @@ AcceptedAgree =
 
 -- and the application's component stands for its symbol
 abbrev pub AcceptedAppsStand : Type 0
-AcceptedAppsStand = (modules : List Named_module) → Accepted modules → (pairing : Pairing) → Shown_as (source_ties modules lifts_in_source stays_in_source pairing) (program_of modules).app (captured_program_of modules).app
+AcceptedAppsStand = (modules : List Named_module) → Accepted modules → (pairing : Pairing) → Shown_as (source_ties modules lifts_in_source stays_in_source pairing).sites (program_of modules).app (captured_program_of modules).app
 
 -- ---- sessions
 

@@ -1,5 +1,0 @@
-use Rattle.qk_needed.proofs.laws.unlogged_is_same.Goals as goal
-use Rattle.qk_needed.proofs.Unlogged as law
-
-pub returns : goal.returns
-returns c = law.unlogged_is_same
