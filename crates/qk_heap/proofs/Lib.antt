@@ -14,3 +14,4 @@ pub mod Shifted
 pub mod Whole_reads
 pub mod Read_laws
 pub mod Set_fields
+pub mod Listed_names

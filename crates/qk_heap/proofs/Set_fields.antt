@@ -18,15 +18,11 @@ use Rattle.qk_heap.specs.Told.{Told, Has_changed, Hears, all_changed, keys_chang
 use Rattle.qk_heap.specs.Distinct.{Distinct}
 use Rattle.qk_heap.specs.Set_props.{passes, changed_at, value_seen, older_or_new}
 use Rattle.qk_heap.proofs.Named.{turned, has_front}
-use Rattle.qk_heap.proofs.Listing.{behind}
+use Rattle.qk_heap.proofs.Listing.{behind, Apart, apart_none}
 use Rattle.qk_heap.proofs.Entries.{Entries, found_seen, has_seen, distinct_seen, put_new}
 use Rattle.qk_heap.proofs.Hearing.{hears_nothing, hears_both}
 
 -- ---- fields put behind others
-
-abbrev pub LacksAll : Fields → Fields → Type 0
-LacksAll end done = Unit {0}
-LacksAll (field n w rest) done = (has_field n done ≡ false) × LacksAll rest done
 
 appended_behind : (done : Fields) (k : Text) (v : Value) (rest : Fields) → appended (behind done k v) rest ≡ appended done (field k v rest)
 appended_behind end k v rest = refl
@@ -40,22 +36,18 @@ has_behind : (n k : Text) (v : Value) (done : Fields) → same_text k n ≡ fals
 has_behind n k v end h = has_front k n v end false h
 has_behind n k v (field m w done) h = ap (λ b. elim (same_text m n) [ true ↦ true | false ↦ b ]) (has_behind n k v done h)
 
-lacks_behind : (rest done : Fields) (k : Text) (v : Value) → LacksAll rest done → has_field k rest ≡ false → LacksAll rest (behind done k v)
+lacks_behind : (rest done : Fields) (k : Text) (v : Value) → Apart rest done → has_field k rest ≡ false → Apart rest (behind done k v)
 lacks_behind end done k v l h = tt
 lacks_behind (field n w rest) done k v l h = by (same_text n k) refl (lacks_behind rest done k v l.1)
   where
-    by : (b : Bool) → same_text n k ≡ b → (has_field k rest ≡ false → LacksAll rest (behind done k v)) → LacksAll (field n w rest) (behind done k v)
+    by : (b : Bool) → same_text n k ≡ b → (has_field k rest ≡ false → Apart rest (behind done k v)) → Apart (field n w rest) (behind done k v)
     by true e more = absurd (true≢false (sym (has_front n k w rest true e) ∙ h))
     by false e more = (has_behind n k v done (turned n k false e) ∙ l.0, more (sym (has_front n k w rest false e) ∙ h))
-
-lacks_end : (rest : Fields) → LacksAll rest end
-lacks_end end = tt
-lacks_end (field n w rest) = (refl, lacks_end rest)
 
 -- these fields are done, and with the rest they are the whole
 pub record Building (whole done rest : Fields) : Type 0 where
   pub joined : appended done rest ≡ whole
-  pub lacks : LacksAll rest done
+  pub lacks : Apart rest done
   pub distinct : Distinct rest
 
 one_built : (whole done : Fields) (k : Text) (v : Value) (rest : Fields) → Building whole done (field k v rest) → Building whole (behind done k v) rest
@@ -66,7 +58,7 @@ pub all_built : (whole done : Fields) → Building whole done end → done ≡ w
 all_built whole done b = sym (appended_end done) ∙ b.joined
 
 none_built : (whole : Fields) → Distinct whole → Building whole end whole
-none_built whole d = record { joined = refl; lacks = lacks_end whole; distinct = d }
+none_built whole d = record { joined = refl; lacks = apart_none whole; distinct = d }
 
 -- ---- the fields that stay, and those that are new
 
@@ -127,13 +119,13 @@ module _ (alike : Value → Value → Bool) where
       by true e more = subst Distinct (sym (new_stands k w old given e)) more
       by false e more = subst Distinct (sym (new_lacks k w old given e)) (has_new k old given d.0, more)
 
-  lacks_kept : (old given more : Fields) → LacksAll (new_fields old more) (kept_fields alike old given)
+  lacks_kept : (old given more : Fields) → Apart (new_fields old more) (kept_fields alike old given)
   lacks_kept old given end = tt
   lacks_kept old given (field k w more) = by (has_field k old) refl (lacks_kept old given more)
     where
-      by : (b : Bool) → has_field k old ≡ b → LacksAll (new_fields old more) (kept_fields alike old given) → LacksAll (new_fields old (field k w more)) (kept_fields alike old given)
-      by true e l = subst (λ f. LacksAll f (kept_fields alike old given)) (sym (new_stands k w old more e)) l
-      by false e l = subst (λ f. LacksAll f (kept_fields alike old given)) (sym (new_lacks k w old more e)) (has_kept k old given e, l)
+      by : (b : Bool) → has_field k old ≡ b → Apart (new_fields old more) (kept_fields alike old given) → Apart (new_fields old (field k w more)) (kept_fields alike old given)
+      by true e l = subst (λ f. Apart f (kept_fields alike old given)) (sym (new_stands k w old more e)) l
+      by false e l = subst (λ f. Apart f (kept_fields alike old given)) (sym (new_lacks k w old more e)) (has_kept k old given e, l)
 
   pub kept_begin : (old given : Fields) → Distinct old → Building (kept_fields alike old given) end (kept_fields alike old given)
   kept_begin old given d = none_built (kept_fields alike old given) (distinct_kept old given d)

@@ -7,3 +7,4 @@ pub mod Standing
 pub mod Laws
 pub mod Cutting
 pub mod Set_props
+pub mod Names

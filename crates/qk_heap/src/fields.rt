@@ -1,10 +1,10 @@
 //! The fields of an object.
-ghost use Rattle.std.specs.Prelude.{◌≡◌, ◌<◌, [], Some, length, slice_get, bytes_eq, IfOk, OnOk, OnErr};
+ghost use Rattle.std.specs.Prelude.{◌≡◌, ◌<◌, [], Some, length, slice_get, bytes_eq, IfOk, IfSome, OnOk, OnErr};
 ghost use Rattle.std.specs.Option.{option_copied, option_map};
 ghost use Rattle.std.specs.Map.Iter.{deref_pair};
 ghost use Rattle.std.specs.List.{IsDistinct};
 ghost use Rattle.std.specs.Map.{keys_of, lookup, remove_entry};
-ghost use Rattle.indexmap.specs.IndexMap.{insert_entry};
+ghost use Rattle.indexmap.specs.IndexMap.{insert_entry, set_value_at};
 
 use indexmap::IndexMap;
 use qk_shared::Text;
@@ -61,6 +61,16 @@ impl Fields {
         self.map.get(name)
     }
 
+    /// The place of a name and its value; `None` exactly where no field has it.
+    pub fn find(&self, name: &Text) -> Option<(usize, &Value)>
+        ensures value { option_map (λ p. p.1.now) result ≡ lookup (bytes_eq name.now) self.now }
+        ensures place { IfSome result (λ p. slice_get self.now p.0 ≡ Some (name.now, p.1.now)) }
+        ensures distinct { IsDistinct bytes_eq (keys_of self.now) }
+    {
+        let (at, _, v) = self.map.get_full(name)?;
+        Some((at, v))
+    }
+
     /// The field that was put in at a place counted from 0; `None` exactly where none stands there.
     pub fn nth(&self, at: usize) -> Option<(&Text, &Value)>
         ensures { option_map deref_pair result ≡ slice_get self.now at }
@@ -86,6 +96,17 @@ impl Fields {
     {
         self.map.insert(name, v)?;
         Ok(())
+    }
+
+    /// The field at a place has the value now.
+    pub fn set(&mut self, at: usize, v: Value)
+        requires { at < length self.old }
+        ensures { self.new ≡ set_value_at self.old at v }
+    {
+        let Some(held) = self.map.get_index_mut(at) else {
+            unreachable!()
+        };
+        *held = v;
     }
 
     /// The field of this name goes, where there is one.

@@ -89,6 +89,7 @@ impl Heap {
         requires { l.now.addr.0 < length self.now }
         ensures value { IfOk result (λ v. (names : Site → List texts.Text) → seen names v ≡ or_undefined (standing (heap_seen names self.now) (loc_seen l.now))) }
         ensures told { OnOk result (Hears W.stands_for w.old (Was_read (loc_seen l.now) ∷ []) w.new) }
+        ensures untold { OnErr result (Hears W.stands_for w.old [] w.new) }
         ensures memory { IfErr result (λ e. e ≡ Memory) }
     {
         let v = self.value(l)?;

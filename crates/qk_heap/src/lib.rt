@@ -9,6 +9,7 @@ mod items;
 mod keys;
 pub mod laws;
 mod location;
+mod names;
 mod naming;
 mod object;
 mod reading;

@@ -54,14 +54,14 @@ fn write_name<W: Watch>(
     ensures silent { IfErr result (λ e. AtFault e (w.new ≡ w.old)) }
 {
     let count = fields.len();
-    let Some(held) = fields.get(&name) else {
+    let Some((at, held)) = fields.find(&name) else {
         return add_name(fields, a, name, v, w);
     };
     if count > MOST {
         return Err(HeapStop::Fault(Fault::ListTooLong));
     }
-    tell_unless_same(a, Key::Prop(name.share()?), held, &v, w)?;
-    fields.put(name, v)?;
+    tell_unless_same(a, Key::Prop(name), held, &v, w)?;
+    fields.set(at, v);
     Ok(())
 }
 

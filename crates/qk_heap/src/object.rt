@@ -1,5 +1,5 @@
 //! The objects of a heap.
-ghost use Rattle.std.specs.Prelude.{◌≡◌, ◌-◌, ◌++◌, ◌∷◌, [], List, length, take, map, suc, OnOk, OnErr, IfOk, IfErr};
+ghost use Rattle.std.specs.Prelude.{◌≡◌, ◌-◌, ◌++◌, ◌∷◌, [], List, length, take, map, suc, OnOk, OnErr, IfOk, IfErr, vec_items};
 ghost use Rattle.qk_meaning.specs.Methods.{object_items, object_locations};
 ghost use Rattle.qk_heap.specs.Told.{Hears, all_read};
 ghost use Rattle.qk_meaning.specs.Parts.{packed, nth};
@@ -16,6 +16,7 @@ ghost use Rattle.qk_value.specs.Faults.{fault_of};
 ghost use Rattle.qk_value.specs.View.{seen};
 ghost use Rattle.qk_heap.specs.Seen.{object_seen, key_seen};
 ghost use Rattle.qk_heap.specs.Becoming.{Became, Refuses, AtFault, IsArray, deleted_from};
+ghost use Rattle.qk_heap.specs.Names.{object_names};
 ghost use Rattle.qk_heap.specs.Set_props.{ObjectPropsSet, IsProps};
 
 use crate::fault::HeapStop;
@@ -23,6 +24,7 @@ use crate::fields::Fields;
 use crate::indexing::{pop_item, push_item, write_index};
 use crate::items::Items;
 use crate::location::Key;
+use crate::names::{all_names, listed_names};
 use crate::naming::{remove_name, write_key};
 use crate::reading::read_items;
 use crate::setting::set_fields;
@@ -31,7 +33,7 @@ use crate::splicing::splice_items;
 use crate::watch::{Watch, WatchFault};
 use qk_shared::Text;
 use qk_value::{Addr, Fault, Fun, Value, is_forbidden};
-use std::alloc::Global;
+use std::alloc::{AllocError, Global};
 
 /// A plain object by its fields, an array by its items, a signal by its value, a computed by its function, the props of an instance by their fields.
 #[derive(Drop)]
@@ -77,6 +79,19 @@ impl Object {
             Object::Signal(v) => value_named(v, name),
             Object::Array(_) => None,
             Object::Computed(_) => None,
+        }
+    }
+
+    /// The names of a plain object in the order of listing, and those of props; `None` exactly where it is another object.
+    pub fn names(&self, alloc: Global) -> Result<Option<Vec<Text>>, AllocError>
+        ensures { IfOk result (λ found. (names : Site → List texts.Text) → option_map vec_items found ≡ object_names (object_seen names self.now)) }
+    {
+        match self {
+            Object::Plain(fields) => Ok(Some(listed_names(alloc, fields)?)),
+            Object::Props(fields) => Ok(Some(all_names(alloc, fields)?)),
+            Object::Array(_) => Ok(None),
+            Object::Signal(_) => Ok(None),
+            Object::Computed(_) => Ok(None),
         }
     }
 
