@@ -119,10 +119,23 @@ pub(crate) enum Signs {
     Child,
 }
 
-pub(crate) fn is_same(a: &[u8], b: &[u8]) -> bool
-    ensures { result ≡ same a.now b.now }
+/// Whether the bytes are those. Most words that are compared differ in their first byte.
+pub fn is_same(mut a: &[u8], mut b: &[u8]) -> bool
+    ensures { result ≡ same a.entry.now b.entry.now }
 {
-    a == b
+    while let [c, a_rest @ ..] = a {
+        match b {
+            [d, b_rest @ ..] => {
+                if c != d {
+                    return false;
+                }
+                b = b_rest;
+            }
+            [] => return false,
+        }
+        a = a_rest;
+    }
+    b.is_empty()
 }
 
 fn is_listed(mut table: &[&[u8]], word: &[u8]) -> bool
