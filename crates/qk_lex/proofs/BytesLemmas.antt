@@ -1,13 +1,12 @@
 -- A word of ASCII stands at the front of the bytes of a text where it stands at the front of its characters.
-use Rattle.std.specs.Prelude.{◌≡◌, refl, ℕ, ◌-◌, ◌≤◌, ◌<◌, Bool, true, false, ◌&&◌, ◌||◌, if◌then◌else◌, ◌==◌, nat_lt, nat_eq, List, [], ◌∷◌, ◌++◌, length, take}
+use Rattle.std.specs.Prelude.{◌≡◌, refl, ℕ, ◌-◌, ◌≤◌, ◌<◌, Bool, true, false, ◌&&◌, ◌||◌, if◌then◌else◌, ◌==◌, nat_lt, List, [], ◌∷◌, ◌++◌, length, take}
 use Rattle.std.specs.Str.{encode_utf8_all}
 use Rattle.std.specs.Char.{encode_utf8}
 use mathlib.Core.Path.{sym, ◌∙◌, ap, subst}
 use mathlib.Core.Logic.{inl, inr}
 use native.Mathlib.Omega.{arith}
 use lib.Dec.{T, ltb→lt, lt→ltb}
-use lib.Pointwise.{pointwise}
-use Rattle.std.proofs.Common.{length-append}
+use Rattle.std.proofs.Common.{length-append, get_or}
 use Rattle.std.proofs.lemmas.Bool.{false≢true, cases_lt}
 use Rattle.std.proofs.lemmas.Str.{byte_from_char, char_from_byte, encode_ascii, encodes-append, length-encode, len_utf8_bounds}
 use Rattle.qk_ast.specs.Characters.{Characters, same, is_one_of, is_front}
@@ -15,14 +14,8 @@ use Rattle.qk_ast.specs.Tokens.{longest_after, reserved_words, code_signs, tag_s
 use Rattle.qk_ast.proofs.FrontToken.{left, right, if_true, if_false}
 use Rattle.qk_lex.specs.declared.tables.Signs.{Signs}
 use Rattle.qk_lex.specs.declared.tables.Signs.TheVariants as signs
-use Rattle.qk_lex.specs.Tables.{signs_of}
+use Rattle.qk_lex.specs.Tables.{beginning, signs_of}
 use Rattle.qk_lex.proofs.Choices.{told, either_way, both, same_number, number_same, number_differs}
-
--- what a slice's test says
-pub front_starts : (s text : List ℕ) → pointwise nat_eq s (take (length s) text) ≡ is_front s text
-front_starts [] text = refl
-front_starts (c ∷ cs) [] = refl
-front_starts (c ∷ cs) (d ∷ ds) = ap (λ b. (c == d) && b) (front_starts cs ds)
 
 abbrev pub AllAscii : List ℕ → Type 0
 AllAscii [] = Unit {0}
@@ -82,6 +75,12 @@ longest_bytes (s ∷ ss) h best cs =
     ∙ longest_bytes ss h.1 (if is_front s cs && nat_lt (length best) (length s) then s else best) cs
 
 -- the same word
+turned : (m n : ℕ) → (m == n) ≡ (n == m)
+turned m n = elim (either_way (m == n)) [
+  | inl k ↦ k ∙ sym (ap (λ y. n == y) (same_number m n k) ∙ number_same n)
+  | inr k ↦ k ∙ sym (number_differs n m (λ q. absurd (false≢true (sym k ∙ (ap (λ y. m == y) q ∙ number_same m)))))
+]
+
 same_step : (a : ℕ) (word : List ℕ) (c : ℕ) (cs : Characters) → a < 128 → same (encode_utf8_all cs) word ≡ same cs word
     → (bytes : List ℕ) → bytes ≡ encode_utf8 c ++ encode_utf8_all cs → same bytes (a ∷ word) ≡ same (c ∷ cs) (a ∷ word)
 same_step a word c cs h ih [] e = absurd (no_bytes c (encode_utf8_all cs) e)
@@ -90,12 +89,6 @@ same_step a word c cs h ih (b ∷ bs) e =
     elim (either_way (a == b)) [
       | inl k ↦ ap (λ t. t && same bs word) (turned b a ∙ (x.0 ∙ turned a c)) ∙ ap (λ t. (c == a) && t) (ap (λ y. same y word) (x.1 k) ∙ ih)
       | inr k ↦ ap (λ t. t && same bs word) (turned b a ∙ k) ∙ ap (λ t. t && same cs word) (sym k ∙ (x.0 ∙ turned a c))
-    ]
-  where
-    turned : (m n : ℕ) → (m == n) ≡ (n == m)
-    turned m n = elim (either_way (m == n)) [
-      | inl k ↦ k ∙ sym (ap (λ y. n == y) (same_number m n k) ∙ number_same n)
-      | inr k ↦ k ∙ sym (number_differs n m (λ q. absurd (false≢true (sym k ∙ (ap (λ y. m == y) q ∙ number_same m)))))
     ]
 
 pub same_bytes : (word : List ℕ) → AllAscii word → (cs : Characters) → same (encode_utf8_all cs) word ≡ same cs word
@@ -147,8 +140,8 @@ child_ascii = ascii_words child_signs refl
 abbrev pub best_of : List ℕ → List ℕ → List ℕ → List ℕ
 best_of best sign text = if is_front sign text && nat_lt (length best) (length sign) then sign else best
 
-pub no_front : (best sign text : List ℕ) → pointwise nat_eq sign (take (length sign) text) ≡ false → best ≡ best_of best sign text
-no_front best sign text h = sym (if_false _ _ (ap (λ b. b && nat_lt (length best) (length sign)) (sym (front_starts sign text) ∙ h)))
+pub no_front : (best sign text : List ℕ) → is_front sign text ≡ false → best ≡ best_of best sign text
+no_front best sign text h = sym (if_false _ _ (ap (λ b. b && nat_lt (length best) (length sign)) h))
 
 pub not_longer : (best sign text : List ℕ) → length sign ≤ length best → best ≡ best_of best sign text
 not_longer best sign text h = sym (if_false _ _ (and_false (is_front sign text) _ (not_less (length best) (length sign) h)))
@@ -163,13 +156,32 @@ not_longer best sign text h = sym (if_false _ _ (and_false (is_front sign text) 
       | inr e ↦ e
     ]
 
-pub longer : (best sign text : List ℕ) → pointwise nat_eq sign (take (length sign) text) ≡ true → length best < length sign → sign ≡ best_of best sign text
-longer best sign text h l = sym (if_true _ _ (both _ _ (sym (front_starts sign text) ∙ h) (told _ (lt→ltb (length best) (length sign) l))))
+pub longer : (best sign text : List ℕ) → is_front sign text ≡ true → length best < length sign → sign ≡ best_of best sign text
+longer best sign text h l = sym (if_true _ _ (both _ _ h (told _ (lt→ltb (length best) (length sign) l))))
 
 pub signs_ascii : (signs : Signs) → AllSigns (signs_of signs)
 signs_ascii signs.Code = code_ascii
 signs_ascii signs.Tag = tag_ascii
 signs_ascii signs.Child = child_ascii
+
+-- of the signs, only those that begin as the text does may stand at its front
+pub longest_beginning : (c : ℕ) (text : List ℕ) (signs : List Characters) (best : Characters) → longest_after best (beginning c signs) (c ∷ text) ≡ longest_after best signs (c ∷ text)
+longest_beginning c text [] best = refl
+longest_beginning c text ([] ∷ ss) best = longest_beginning c text ss best ∙ ap (λ b. longest_after b ss (c ∷ text)) (not_longer best [] (c ∷ text) (omega arith))
+longest_beginning c text ((d ∷ ds) ∷ ss) best = elim (either_way (c == d)) [
+  | inl h ↦ kept h ∙ longest_beginning c text ss (best_of best (d ∷ ds) (c ∷ text))
+  | inr h ↦
+      kept h
+      ∙ (longest_beginning c text ss best
+      ∙ ap (λ b. longest_after b ss (c ∷ text)) (no_front best (d ∷ ds) (c ∷ text) (ap (λ b. b && is_front ds text) (turned d c ∙ h))))
+]
+  where
+    kept : {found : Bool} → (c == d) ≡ found → longest_after best (beginning c ((d ∷ ds) ∷ ss)) (c ∷ text) ≡ longest_after best ((if found then (d ∷ ds) ∷ [] else []) ++ beginning c ss) (c ∷ text)
+    kept h = ap (λ b. longest_after best ((if b then (d ∷ ds) ∷ [] else []) ++ beginning c ss) (c ∷ text)) h
+
+pub longest_by_first : (text : List ℕ) (signs : List Characters) → 1 ≤ length text → longest_after [] (beginning (get_or text 0 0) signs) text ≡ longest_after [] signs text
+longest_by_first [] signs h = absurd (omega (arith, h))
+longest_by_first (c ∷ text) signs h = longest_beginning c text signs []
 
 -- the longest of these signs in the bytes of a text
 pub longest_in : (signs : List Characters) → AllSigns signs → (bytes text found : List ℕ) → found ≡ longest_after [] signs bytes → bytes ≡ encode_utf8_all text → found ≡ longest_after [] signs text

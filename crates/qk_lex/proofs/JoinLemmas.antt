@@ -1,18 +1,19 @@
 -- The lines of the text between tags.
-use Rattle.std.specs.Prelude.{◌≡◌, refl, ℕ, zero, suc, ◌+◌, ◌-◌, ◌≤◌, ◌<◌, Bool, true, false, not, ◌&&◌, if◌then◌else◌, ◌==◌, List, [], ◌∷◌, ◌++◌, length, take, drop, codes}
-use Rattle.std.specs.Str.{encode_utf8_all}
+use Rattle.std.specs.Prelude.{◌≡◌, refl, ℕ, zero, suc, ◌+◌, ◌-◌, ◌≤◌, ◌<◌, Bool, true, false, not, ◌&&◌, if◌then◌else◌, ◌==◌, List, [], ◌∷◌, ◌++◌, length, map, take, drop, chars, codes}
+use Rattle.std.specs.Str.{encode_utf8_all, IsUtf8}
 use Rattle.std.specs.Char.{encode_utf8}
 use mathlib.Core.Path.{sym, ◌∙◌, ap, subst}
 use mathlib.Core.Logic.{inl, inr}
 use native.Mathlib.Omega.{arith}
 use lib.ListN.{get_or}
-use Rattle.std.proofs.Common.{append_assoc}
+use Rattle.std.proofs.Common.{append_assoc, append-nil}
 use Rattle.std.proofs.Math.Seq.{take-suc}
 use Rattle.std.proofs.lemmas.Bool.{false≢true}
+use Rattle.std.proofs.lemmas.Str.{encodes-chars}
 use Rattle.qk_ast.specs.Characters.{Characters, every, is_front}
-use Rattle.qk_ast.specs.JsxText.{onto_first, lines, without_spaces_before, unless_blank, without_spaces_after, later_lines, trimmed, after_space, joined, decoded_after, decoded}
+use Rattle.qk_ast.specs.JsxText.{onto_first, lines, without_spaces_before, unless_blank, without_spaces_after, later_lines, trimmed, after_space, joined, decoded_after, decoded, untabbed, jsx_text}
 use Rattle.qk_ast.proofs.FrontToken.{left, right, is_not, if_true, if_false}
-use Rattle.qk_lex.specs.Joining.{line_end, drop_return, appended, first_decoded}
+use Rattle.qk_lex.specs.Joining.{line_end, drop_return, appended, first_decoded, stays}
 use Rattle.qk_lex.proofs.Choices.{either_way, both, not_true, same_number, number_same, number_differs}
 
 -- ---- the last character of a line
@@ -243,3 +244,75 @@ decoded_on out out' rest more c count all h p o m k =
 pub some_length : (xs : Characters) → (length xs == 0) ≡ false → 0 < length xs
 some_length [] h = absurd (false≢true (sym h))
 some_length (x ∷ xs) h = omega arith
+
+-- ---- a text that is read as it is written
+
+record Stays (c : ℕ) (cs : Characters) : Type 0 where
+  no_entity : (38 == c) ≡ false
+  no_feed : (c == 10) ≡ false
+  no_tab : (c == 9) ≡ false
+  others : every stays cs ≡ true
+
+stays_here : (c : ℕ) (cs : Characters) → every stays (c ∷ cs) ≡ true → Stays c cs
+stays_here c cs h =
+    let here : stays c ≡ true = left (stays c) (every stays cs) h in
+    let first : (not (c == 38) && not (c == 10)) ≡ true = left _ (not (c == 9)) here in
+    let no_entity : (c == 38) ≡ false = is_not _ (left (not (c == 38)) (not (c == 10)) first) in
+    record {
+      no_entity = number_differs 38 c (λ q. false≢true (sym no_entity ∙ ap (λ x. x == 38) (sym q)));
+      no_feed = is_not _ (right (not (c == 38)) (not (c == 10)) first);
+      no_tab = is_not _ (right (not (c == 38) && not (c == 10)) (not (c == 9)) here);
+      others = right (stays c) (every stays cs) h;
+    }
+
+plain_decoded : (cs : Characters) → every stays cs ≡ true → decoded cs ≡ cs
+plain_decoded [] h = refl
+plain_decoded (c ∷ cs) h =
+    let k = stays_here c cs h in
+    if_false _ _ (begins_none k (codes "amp;"))
+    ∙ (if_false _ _ (begins_none k (codes "lt;"))
+    ∙ (if_false _ _ (begins_none k (codes "gt;"))
+    ∙ (if_false _ _ (begins_none k (codes "quot;"))
+    ∙ (if_false _ _ (begins_none k (codes "nbsp;"))
+    ∙ ap (λ t. c ∷ t) (plain_decoded cs k.others)))))
+  where
+    begins_none : Stays c cs → (w : Characters) → is_front (38 ∷ w) (c ∷ cs) ≡ false
+    begins_none k w = ap (λ b. b && is_front w cs) k.no_entity
+
+plain_lines : (cs : Characters) → every stays cs ≡ true → lines cs ≡ cs ∷ []
+plain_lines [] h = refl
+plain_lines (c ∷ cs) h =
+    let k = stays_here c cs h in
+    if_false _ _ k.no_feed ∙ (if_false _ _ (and_false (c == 13) _ (no_feed_next cs k.others)) ∙ ap (onto_first c) (plain_lines cs k.others))
+  where
+    and_false : (a b : Bool) → b ≡ false → (a && b) ≡ false
+    and_false true b e = e
+    and_false false b e = refl
+
+    no_feed_next : (ds : Characters) → every stays ds ≡ true → is_front (10 ∷ []) ds ≡ false
+    no_feed_next [] h = refl
+    no_feed_next (d ∷ ds) h =
+        let k = stays_here d ds h in
+        ap (λ b. b && true) (number_differs 10 d (λ q. false≢true (sym k.no_feed ∙ ap (λ x. x == 10) (sym q))))
+
+plain_untabbed : (cs : Characters) → every stays cs ≡ true → map untabbed cs ≡ cs
+plain_untabbed [] h = refl
+plain_untabbed (c ∷ cs) h =
+    let k = stays_here c cs h in
+    ap (λ x. x ∷ map untabbed cs) (if_false 32 c k.no_tab) ∙ ap (λ t. c ∷ t) (plain_untabbed cs k.others)
+
+alone : (line : Characters) → joined (line ∷ []) ≡ line
+alone [] = refl
+alone (c ∷ cs) = append-nil (c ∷ cs)
+
+plain_jsx_text : (cs : Characters) → every stays cs ≡ true → jsx_text cs ≡ cs
+plain_jsx_text cs h =
+    ap (λ t. decoded (joined (trimmed (lines t)))) (plain_untabbed cs h)
+    ∙ (ap (λ t. decoded (joined (trimmed t))) (plain_lines cs h) ∙ (ap decoded (alone cs) ∙ plain_decoded cs h))
+
+-- such a text's bytes are those that it stands for
+pub plain_attribute : (raw : List ℕ) → IsUtf8 raw → every stays (chars raw) ≡ true → raw ≡ encode_utf8_all (decoded (chars raw))
+plain_attribute raw u h = sym (ap encode_utf8_all (plain_decoded (chars raw) h) ∙ encodes-chars raw u)
+
+pub plain_jsx : (raw : List ℕ) → IsUtf8 raw → every stays (chars raw) ≡ true → raw ≡ encode_utf8_all (jsx_text (chars raw))
+plain_jsx raw u h = sym (ap encode_utf8_all (plain_jsx_text (chars raw) h) ∙ encodes-chars raw u)

@@ -3,6 +3,7 @@ pub mod GapLemmas
 pub mod EscapeLemmas
 pub mod QuoteLemmas
 pub mod BytesLemmas
+mod ScanLemmas
 pub mod TableLemmas
 pub mod RegionLemmas
 pub mod CodeSteps

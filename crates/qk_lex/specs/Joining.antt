@@ -1,5 +1,5 @@
 -- The lines of the text between tags, as they are read from its front.
-use Rattle.std.specs.Prelude.{ℕ, suc, if◌then◌else◌, ◌==◌, [], ◌∷◌, ◌++◌, codes}
+use Rattle.std.specs.Prelude.{ℕ, suc, Bool, not, ◌&&◌, if◌then◌else◌, ◌==◌, [], ◌∷◌, ◌++◌, codes}
 use Rattle.qk_ast.specs.Characters.{Characters, is_front}
 
 -- how many characters stand before the first line feed, or in all
@@ -29,3 +29,7 @@ first_decoded (c ∷ cs) =
     else (if is_front (codes "&quot;") (c ∷ cs) then (34, 6)
     else (if is_front (codes "&nbsp;") (c ∷ cs) then (160, 6)
     else (c, 1)))))
+
+-- a character that is read as it is written: none that begins an entity, ends a line or counts as a space
+abbrev pub stays : ℕ → Bool
+stays c = not (c == 38) && not (c == 10) && not (c == 9)

@@ -2,12 +2,13 @@
 ghost use Rattle.std.specs.Prelude.{◌≡◌, ◌≢◌, ◌<◌, ◌≤◌, ◌-◌, ◌++◌, ◌∷◌, if◌then◌else◌, length, map, take, drop, chars, IfOk, IfErr, OnOk};
 ghost use Rattle.std.specs.Str.{encode_utf8_all};
 ghost use Rattle.std.specs.String.{string_bytes};
-ghost use Rattle.qk_ast.specs.Characters.{is_front};
+ghost use Rattle.qk_ast.specs.Characters.{every, is_front};
 ghost use Rattle.qk_ast.specs.JsxText as definition;
-ghost use Rattle.qk_lex.specs.Joining.{line_end, drop_return, appended, first_decoded};
+ghost use Rattle.qk_lex.specs.Joining.{line_end, drop_return, appended, first_decoded, stays};
 ghost use Rattle.qk_lex.specs.declared.LexFault.TheVariants.{Memory};
 
 use crate::LexFault;
+use crate::scan::split_first;
 use std::alloc::{AllocError, Global};
 
 /// A tab counts as a space.
@@ -161,6 +162,20 @@ fn decoded_text(alloc: Global, text: &[char]) -> Result<String, AllocError>
     Ok(decoded)
 }
 
+/// Whether each character of a text is read as it is written.
+fn is_plain(text: &str) -> bool
+    ensures { result ≡ every stays (chars text.now) }
+{
+    let mut rest = text;
+    while let Some((c, more)) = split_first(rest) {
+        if c == '&' || c == '\n' || c == '\t' {
+            return false;
+        }
+        rest = more;
+    }
+    true
+}
+
 fn characters_of(alloc: Global, raw: &str) -> Result<Vec<char>, AllocError>
     ensures { IfOk result (λ v. v.items ≡ chars raw.now) }
 {
@@ -179,6 +194,9 @@ pub fn jsx_text(alloc: Global, raw: &str) -> Result<String, LexFault>
     ensures text { IfOk result (λ s. string_bytes s ≡ encode_utf8_all (definition.jsx_text (chars raw.now))) }
     ensures memory { IfErr result (λ fault. fault ≡ Memory) }
 {
+    if is_plain(raw) {
+        return Ok(String::from_str(alloc, raw)?);
+    }
     let characters = untabbed_characters(alloc, raw)?;
     let joined = joined_lines(alloc, characters.as_slice())?;
     Ok(decoded_text(alloc, joined.as_slice())?)
@@ -189,6 +207,9 @@ pub fn attribute_text(alloc: Global, raw: &str) -> Result<String, LexFault>
     ensures text { IfOk result (λ s. string_bytes s ≡ encode_utf8_all (definition.decoded (chars raw.now))) }
     ensures memory { IfErr result (λ fault. fault ≡ Memory) }
 {
+    if is_plain(raw) {
+        return Ok(String::from_str(alloc, raw)?);
+    }
     let characters = characters_of(alloc, raw)?;
     Ok(decoded_text(alloc, characters.as_slice())?)
 }

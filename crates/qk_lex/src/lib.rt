@@ -18,6 +18,8 @@ mod tables;
 
 pub use jsx::{attribute_text, jsx_text};
 pub use reading::tokens;
+pub use scan::split_first;
+pub use tables::is_same;
 
 #[cfg(test)]
 mod tests;

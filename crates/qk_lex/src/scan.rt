@@ -78,8 +78,8 @@ impl Class {
     }
 }
 
-/// The first character of a text, and what follows it.
-pub(crate) fn split_first(text: &str) -> Option<(char, &str)>
+/// The first character of a text, of one or more bytes, and what follows it.
+fn split_first_decoded(text: &str) -> Option<(char, &str)>
     ensures value { MatchOption result (chars text.now ≡ []) (λ p. chars text.now ≡ p.0 ∷ chars p.1.now) }
     ensures shorter { IfSome result (λ p. length p.1.now < length text.now) }
 {
@@ -87,6 +87,23 @@ pub(crate) fn split_first(text: &str) -> Option<(char, &str)>
     match characters.next() {
         None => None,
         Some(c) => Some((c, characters.as_str())),
+    }
+}
+
+/// The first character of a text, and what follows it.
+pub fn split_first(text: &str) -> Option<(char, &str)>
+    ensures value { MatchOption result (chars text.now ≡ []) (λ p. chars text.now ≡ p.0 ∷ chars p.1.now) }
+    ensures shorter { IfSome result (λ p. length p.1.now < length text.now) }
+{
+    match text.as_bytes() {
+        [first, ..] => {
+            if *first < 128 {
+                Some((*first as char, &text[1..]))
+            } else {
+                split_first_decoded(text)
+            }
+        }
+        [] => None,
     }
 }
 

@@ -1,15 +1,17 @@
 //! What comes ahead: operators, an arrow, a known call.
 
-ghost use Rattle.std.specs.Prelude.{◌≡◌, List, ◌∷◌, chars, Ok, Some};
+ghost use Rattle.std.specs.Prelude.{◌≡◌, if◌then◌else◌, true, List, [], ◌∷◌, chars, codes, Ok, Some, None};
 ghost use Rattle.std.specs.Option.{option_map};
+ghost use Rattle.qk_ast.specs.Characters.{same};
 ghost use Rattle.qk_ast.specs.Rules.{tightness_of, is_of_level};
 ghost use Rattle.qk_ast.specs.Tokens.{Token as Grammar_token};
 ghost use Rattle.qk_ast.specs.Tokens as grammar;
 ghost use Rattle.qk_reading.specs.Ahead as spec;
 ghost use Rattle.qk_reading.specs.Input as input;
 ghost use Rattle.qk_token.specs.Seen.{level_of, kind_of, scan_of};
-ghost use Rattle.qk_token.specs.View.{token_of, tokens_of};
+ghost use Rattle.qk_token.specs.View.{is_ascii, token_of, tokens_of};
 
+use crate::front::split_first;
 use crate::token::{Token, is_word};
 use crate::tokens::{Tokens, first_is_sign, is_sign};
 use qk_ast::{AssignOp, Bin, Known};
@@ -115,38 +117,52 @@ impl Kind {
     }
 }
 
+/// The operator, where the rest of its sign is that.
+fn bin_with(op: Bin, rest: &[u8], more: &str) -> Option<Bin>
+    requires { is_ascii rest.now ≡ true }
+    ensures { result ≡ (if same (chars more.now) rest.now then Some op else None) }
+{
+    if is_word(more, rest) { Some(op) } else { None }
+}
+
+/// Less or more, or that or the same.
+fn order_of(strict: Bin, weak: Bin, more: &str) -> Option<Bin>
+    ensures { result ≡ (if same (chars more.now) [] then Some strict else (if same (chars more.now) (codes "=") then Some weak else None)) }
+{
+    if is_word(more, b"") {
+        Some(strict)
+    } else {
+        bin_with(weak, b"=", more)
+    }
+}
+
+/// The binary operator whose sign begins with that character and goes on so.
+fn bin_from(first: char, more: &str) -> Option<Bin>
+    ensures { result ≡ spec.bin_of (first ∷ chars more.now) }
+{
+    match first {
+        '|' => bin_with(Bin::Or, b"|", more),
+        '&' => bin_with(Bin::And, b"&", more),
+        '?' => bin_with(Bin::Coalesce, b"?", more),
+        '=' => bin_with(Bin::Same, b"==", more),
+        '!' => bin_with(Bin::NotSame, b"==", more),
+        '<' => order_of(Bin::Less, Bin::LessEq, more),
+        '>' => order_of(Bin::More, Bin::MoreEq, more),
+        '+' => bin_with(Bin::Add, b"", more),
+        '-' => bin_with(Bin::Sub, b"", more),
+        '*' => bin_with(Bin::Mul, b"", more),
+        '%' => bin_with(Bin::Rem, b"", more),
+        _ => None,
+    }
+}
+
 /// The binary operator that a sign is.
 fn bin_of(sign: &str) -> Option<Bin>
     ensures { result ≡ spec.bin_of (chars sign.now) }
 {
-    if is_word(sign, b"||") {
-        Some(Bin::Or)
-    } else if is_word(sign, b"&&") {
-        Some(Bin::And)
-    } else if is_word(sign, b"??") {
-        Some(Bin::Coalesce)
-    } else if is_word(sign, b"===") {
-        Some(Bin::Same)
-    } else if is_word(sign, b"!==") {
-        Some(Bin::NotSame)
-    } else if is_word(sign, b"<") {
-        Some(Bin::Less)
-    } else if is_word(sign, b"<=") {
-        Some(Bin::LessEq)
-    } else if is_word(sign, b">") {
-        Some(Bin::More)
-    } else if is_word(sign, b">=") {
-        Some(Bin::MoreEq)
-    } else if is_word(sign, b"+") {
-        Some(Bin::Add)
-    } else if is_word(sign, b"-") {
-        Some(Bin::Sub)
-    } else if is_word(sign, b"*") {
-        Some(Bin::Mul)
-    } else if is_word(sign, b"%") {
-        Some(Bin::Rem)
-    } else {
-        None
+    match split_first(sign) {
+        Some((first, more)) => bin_from(first, more),
+        None => None,
     }
 }
 

@@ -10,11 +10,7 @@ pub fn split_first(text: &str) -> Option<(char, &str)>
     ensures value { MatchOption result (chars text.now ≡ []) (λ p. chars text.now ≡ p.0 ∷ chars p.1.now) }
     ensures shorter { IfSome result (λ p. length p.1.now < length text.now) }
 {
-    let mut characters = text.chars();
-    match characters.next() {
-        None => None,
-        Some(c) => Some((c, characters.as_str())),
-    }
+    qk_lex::split_first(text)
 }
 
 /// What follows the character, where the text begins with it.

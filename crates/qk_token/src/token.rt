@@ -4,6 +4,8 @@ ghost use Rattle.std.specs.Prelude.{◌≡◌, true, chars};
 ghost use Rattle.qk_ast.specs.Characters.{same};
 ghost use Rattle.qk_token.specs.View.{is_ascii};
 
+use qk_lex::is_same;
+
 /// Where a template's part begins or ends.
 #[derive(Clone, Copy, Debug, PartialEq, Eq)]
 pub enum Edge {
@@ -36,5 +38,5 @@ pub fn is_word(text: &str, word: &[u8]) -> bool
     requires { is_ascii word.now ≡ true }
     ensures { result ≡ same (chars text.now) word.now }
 {
-    text.as_bytes() == word
+    is_same(text.as_bytes(), word)
 }

@@ -1,10 +1,12 @@
-use Rattle.std.proofs.Common.{◌≡◌, ◌∙◌, ◌++◌, sym, ap}
-use Rattle.std.specs.Char.{encode_utf8}
-use Rattle.std.proofs.lemmas.Str.{chars_past_char}
+use Rattle.qk_lex.proofs.ScanLemmas.{first_ascii, boundary_ascii, no_characters}
 use Rattle.qk_lex.proofs.scan.split_first.Goals as goal
 
-pub returns-in-Some-clause-value : goal.returns-in-Some-clause-value
-returns-in-Some-clause-value c =
-    let here : c.args.text.now ≡ encode_utf8 c.in-Some.c ++ c.as_str.result.now =
-    sym c.chars-characters.ensures.rest ∙ (c.in-Some.ensures.steps.0 ∙ ap (λ r. encode_utf8 c.in-Some.c ++ r) (sym c.as_str.ensures)) in
-    chars_past_char c.args.text.now c.as_str.result.now c.in-Some.c c.utf8.text here
+pub range_from-requires : goal.range_from-requires
+range_from-requires c = λ _. boundary_ascii c.args.text.now c.as_bytes.result.now c.utf8.text c.as_bytes.ensures.value c.in-len1-up.len_at_least c.if-first-lt128.true
+
+pub returns-in-empty-clause-value : goal.returns-in-empty-clause-value
+returns-in-empty-clause-value c = no_characters c.args.text.now c.as_bytes.result.now c.as_bytes.ensures.value c.in-empty.len_below
+
+pub returns-then-first-lt128-clause-value : goal.returns-then-first-lt128-clause-value
+returns-then-first-lt128-clause-value c =
+    first_ascii c.args.text.now c.as_bytes.result.now c.range_from.result.now c.utf8.text c.as_bytes.ensures.value c.in-len1-up.len_at_least c.if-first-lt128.true c.range_from.ensures.value
