@@ -19,9 +19,6 @@ mod tables;
 pub use jsx::{attribute_text, jsx_text};
 pub use reading::tokens;
 
-#[cfg(test)]
-mod tests;
-
 use std::alloc::{AllocError, AllocFailed};
 
 /// A token of a text.
