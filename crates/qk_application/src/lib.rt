@@ -12,6 +12,3 @@ pub use accepting::accept;
 pub use application::Application;
 pub use fault::ApplicationFault;
 pub use laws::{accepted_or_refused, one_application, one_refusal};
-
-#[cfg(test)]
-mod tests;

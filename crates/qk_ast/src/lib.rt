@@ -233,6 +233,3 @@ pub struct Site {
     pub number: u32,
     pub dollar: bool,
 }
-
-#[cfg(test)]
-mod tests;

@@ -5,6 +5,3 @@ pub mod limits;
 mod meter;
 
 pub use meter::{Budget, Meter};
-
-#[cfg(test)]
-mod tests;

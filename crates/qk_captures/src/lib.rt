@@ -38,6 +38,3 @@ pub fn captures(
     walk.items(m.items.as_slice(), form)?;
     walk.into_found()
 }
-
-#[cfg(test)]
-mod tests;

@@ -5,8 +5,6 @@ ghost use Rattle.qk_first.specs.Laws.{FirstRun};
 
 mod names;
 pub mod shape;
-#[cfg(test)]
-mod tests;
 
 /// The run of a module of the first form under any list of events prints what its counter prints.
 pub fn first_run()

@@ -21,9 +21,6 @@ pub use reading::tokens;
 pub use scan::split_first;
 pub use tables::is_same;
 
-#[cfg(test)]
-mod tests;
-
 use std::alloc::{AllocError, AllocFailed};
 
 /// A token of a text.

@@ -10,6 +10,3 @@ mod scopes;
 pub use local::{Kind, Local};
 pub use mark::Mark;
 pub use scopes::Scopes;
-
-#[cfg(test)]
-mod tests;

@@ -9,6 +9,3 @@ mod statements;
 mod steps;
 
 pub use module::read_module;
-
-#[cfg(test)]
-mod tests;

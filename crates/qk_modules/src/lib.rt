@@ -18,6 +18,3 @@ pub use laws::{gathered_or_refused, one_fault, one_gathering};
 pub use modules::{Modules, NamedModule};
 pub use place::Place;
 pub use table::imports;
-
-#[cfg(test)]
-mod tests;

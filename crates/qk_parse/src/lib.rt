@@ -4,6 +4,3 @@
 mod parse;
 
 pub use parse::{ParseFault, parse_module};
-
-#[cfg(test)]
-mod tests;

@@ -12,6 +12,3 @@ mod statements;
 
 pub use laws::printed_reads_back;
 pub use print::{PrintFault, print_module};
-
-#[cfg(test)]
-mod tests;

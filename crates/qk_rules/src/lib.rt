@@ -20,6 +20,3 @@ mod walk;
 pub use checking::check;
 pub use fault::RuleFault;
 pub use kinds::Kinds;
-
-#[cfg(test)]
-mod tests;

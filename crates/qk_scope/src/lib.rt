@@ -14,6 +14,3 @@ mod using;
 
 pub use fault::ScopeFault;
 pub use resolver::{Names, resolve};
-
-#[cfg(test)]
-mod tests;

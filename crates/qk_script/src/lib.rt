@@ -11,6 +11,3 @@ pub use fault::ScriptFault;
 pub use item::{Event, ScriptItem};
 pub use laws::one_script;
 pub use script::parse_script;
-
-#[cfg(test)]
-mod tests;

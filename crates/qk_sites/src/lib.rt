@@ -8,6 +8,3 @@ mod spelling;
 pub use laws::{one_site, reads_back, spelled_is_symbol, symbol_is_spelled};
 pub use reading::read_symbol;
 pub use spelling::{SitesFault, symbol};
-
-#[cfg(test)]
-mod tests;

@@ -17,6 +17,3 @@ pub use listed::{Lexed, lex};
 pub use token::{Edge, Token, is_word};
 pub use tokens::{Tokens, first_is_sign, is_sign};
 pub use written::{attribute_text, jsx_text, name_text, written_text};
-
-#[cfg(test)]
-mod tests;

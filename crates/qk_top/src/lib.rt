@@ -15,8 +15,3 @@ mod words;
 
 pub use command::run;
 pub use qk_script::{Event, ScriptFault, ScriptItem, parse_script};
-
-#[cfg(test)]
-mod shape_tests;
-#[cfg(test)]
-mod tests;

@@ -1,10 +1,13 @@
-use crate::stream::{read_within, write_whole};
-use crate::{
+//! Stores and sinks of each kind, through the bounds of their traits; and output that fails.
+
+use qk_store::{
     DirStore, Found, MemSink, MemStore, NoFailSink, NoFailStore, OutSink, Seen, Sink, SinkFault,
     Store, StoreFault,
 };
 use std::alloc::{AllocError, Global};
-use std::io::{ErrorKind, Read, Write};
+use std::cell::Cell;
+use std::fmt::Display;
+use std::io::ErrorKind;
 use std::process::Abort;
 use std::test::Fail;
 use std::{fs, io};
@@ -20,7 +23,7 @@ fn found(alloc: Global, bytes: &str) -> Result<Found, AllocError> {
     Ok(Found::Bytes(Vec::from_slice(alloc, bytes.as_bytes())?))
 }
 
-// Two files, of which one has a second entry that doesn't count, and an empty one.
+/// Two files, of which one has a second entry that doesn't count, and an empty one.
 fn files(alloc: Global) -> Result<Vec<(String, Vec<u8>)>, AllocError> {
     let mut files = Vec::new(alloc);
     files.push(entry(alloc, "root.jsx", "first")?)?;
@@ -29,7 +32,7 @@ fn files(alloc: Global) -> Result<Vec<(String, Vec<u8>)>, AllocError> {
     Ok(files)
 }
 
-// What every store over `files` answers, read through the bound.
+/// What every store over `files` answers.
 fn read_all<S: Store>(rt: &impl Abort, alloc: Global, store: &mut S) -> Result<(), Fail> {
     assert_eq!(rt; store.read("root.jsx", 5)?, found(alloc, "first")?);
     assert_eq!(rt; store.read("root.jsx", 4)?, Found::TooLong);
@@ -43,14 +46,10 @@ fn read_all<S: Store>(rt: &impl Abort, alloc: Global, store: &mut S) -> Result<(
     Ok(())
 }
 
-fn put_twice<S: Sink>(sink: &mut S) -> Result<(), SinkFault> {
-    sink.put(b"<p>")?;
-    sink.put(b"one</p>\n")
-}
-
 #[test]
-fn a_store_in_memory_answers_by_its_first_entries(rt: HostRuntime) -> Result<(), Fail> {
+fn stores_in_memory(rt: HostRuntime) -> Result<(), Fail> {
     let alloc = rt.alloc();
+    read_all(&rt, alloc, &mut NoFailStore::new(alloc, files(alloc)?))?;
     let mut store = MemStore::new(alloc, files(alloc)?, Vec::new(alloc));
     read_all(&rt, alloc, &mut store)?;
     assert_eq!(rt; store.file("root.jsx"), Some(b"new bytes".as_slice()));
@@ -67,14 +66,7 @@ fn a_store_in_memory_answers_by_its_first_entries(rt: HostRuntime) -> Result<(),
 }
 
 #[test]
-fn a_store_that_never_fails_answers_the_same(rt: HostRuntime) -> Result<(), Fail> {
-    let alloc = rt.alloc();
-    let mut store = NoFailStore::new(alloc, files(alloc)?);
-    read_all(&rt, alloc, &mut store)
-}
-
-#[test]
-fn listed_calls_fail_and_leave_the_files(rt: HostRuntime) -> Result<(), Fail> {
+fn listed_calls_fail(rt: HostRuntime) -> Result<(), Fail> {
     let alloc = rt.alloc();
     let mut store = MemStore::new(alloc, files(alloc)?, vec![in alloc; 2, 3]?);
     assert_eq!(rt; store.read("root.jsx", 9)?, found(alloc, "first")?);
@@ -84,12 +76,6 @@ fn listed_calls_fail_and_leave_the_files(rt: HostRuntime) -> Result<(), Fail> {
     store.write("root.jsx", b"new")?;
     assert_eq!(rt; store.file("root.jsx"), Some(b"new".as_slice()));
     assert_eq!(rt; store.reads().len(), 2);
-    Ok(())
-}
-
-#[test]
-fn a_listed_put_appends_the_first_half(rt: HostRuntime) -> Result<(), Fail> {
-    let alloc = rt.alloc();
     let mut sink = MemSink::new(alloc, vec![in alloc; 2, 4]?);
     sink.put(b"ab")?;
     assert_eq!(rt; sink.put(b"12345"), Err(SinkFault::Failed));
@@ -97,6 +83,11 @@ fn a_listed_put_appends_the_first_half(rt: HostRuntime) -> Result<(), Fail> {
     assert_eq!(rt; sink.put(b"6"), Err(SinkFault::Failed));
     assert_eq!(rt; sink.bytes(), b"ab12cd".as_slice());
     Ok(())
+}
+
+fn put_twice<S: Sink>(sink: &mut S) -> Result<(), SinkFault> {
+    sink.put(b"<p>")?;
+    sink.put(b"one</p>\n")
 }
 
 #[test]
@@ -121,10 +112,8 @@ fn a_folder_is_a_store(rt: HostRuntime) -> Result<(), Fail> {
     fs::write(&rt, "site/empty", b"".as_slice())?;
     let mut store = DirStore::new(&rt, alloc, String::from_str(alloc, "site")?);
     read_all(&rt, alloc, &mut store)?;
-    assert_eq!(rt;
-        fs::read(&rt, "site/build/root_s1.js")?.as_slice(),
-        b"export".as_slice()
-    );
+    let built = fs::read(&rt, "site/build/root_s1.js")?;
+    assert_eq!(rt; built.as_slice(), b"export".as_slice());
     store.write("pages/a.html", b"<p>")?;
     store.write("pages/a.html", b"")?;
     assert_eq!(rt; store.read("pages/a.html", 0)?, found(alloc, "")?);
@@ -148,48 +137,48 @@ fn a_long_file_is_read_in_many_pieces(rt: HostRuntime) -> Result<(), Fail> {
     Ok(())
 }
 
-// Gives one byte a call, and fails at the third. It takes one byte a call, and nothing at the third.
+/// A standard output that takes one byte a call, so many of them, and then fails or takes no more.
 #[derive(Drop)]
-struct Faulty {
-    calls: u8,
+struct Pipe {
+    room: Cell<usize>,
+    broken: bool,
 }
 
-impl Read for Faulty {
-    fn read(&mut self, buf: &mut [u8]) -> io::Result<usize> {
-        self.calls = self.calls.saturating_add(1);
-        if self.calls == 3 {
-            return Err(io::Error::from(ErrorKind::ConnectionReset));
-        }
-        match buf.first_mut() {
-            Some(byte) => {
-                *byte = self.calls;
-                Ok(1)
-            }
-            None => Ok(0),
-        }
-    }
-}
-
-impl Write for Faulty {
-    fn write(&mut self, buf: &[u8]) -> io::Result<usize> {
-        self.calls = self.calls.saturating_add(1);
-        Ok(if self.calls == 3 { 0 } else { buf.len().min(1) })
+impl io::Print for Pipe {
+    fn print<D: Display + Drop>(&self, _: D) -> io::Result<()> {
+        Err(io::Error::from(ErrorKind::BrokenPipe))
     }
 
-    fn flush(&mut self) -> io::Result<()> {
-        Ok(())
+    fn println<D: Display + Drop>(&self, _: D) -> io::Result<()> {
+        Err(io::Error::from(ErrorKind::BrokenPipe))
+    }
+
+    fn write_all(&self, _: &[u8]) -> io::Result<()> {
+        Err(io::Error::from(ErrorKind::BrokenPipe))
+    }
+
+    fn write_some(&self, bytes: &[u8]) -> io::Result<usize> {
+        let room = self.room.get();
+        if room == 0 && self.broken {
+            return Err(io::Error::from(ErrorKind::BrokenPipe));
+        }
+        self.room.set(room.saturating_sub(1));
+        Ok(room.min(bytes.len()).min(1))
     }
 }
 
 #[test]
-fn an_error_in_the_middle_is_told(rt: HostRuntime) -> Result<(), Fail> {
-    let alloc = rt.alloc();
-    let read = read_within(alloc, &mut Faulty { calls: 0 }, 9);
-    assert!(rt; matches!(read, Err(e) if e.kind() == ErrorKind::ConnectionReset));
-    let stopped = read_within(alloc, &mut Faulty { calls: 0 }, 1)?;
-    assert_eq!(rt; stopped, Found::TooLong);
-    let written = write_whole(&mut Faulty { calls: 0 }, b"abc");
-    assert!(rt; matches!(written, Err(e) if e.kind() == ErrorKind::WriteZero));
-    write_whole(&mut Faulty { calls: 0 }, b"ab")?;
+fn an_output_that_fails_is_told(rt: HostRuntime) -> Result<(), Fail> {
+    for broken in [false, true] {
+        let pipe = Pipe {
+            room: Cell::new(12),
+            broken,
+        };
+        let mut out = OutSink::new(&pipe);
+        put_twice(&mut out)?;
+        assert_eq!(rt; put_twice(&mut out), Err(SinkFault::Failed));
+        assert_eq!(rt; out.put(b"x"), Err(SinkFault::Failed));
+        out.put(b"")?;
+    }
     Ok(())
 }
