@@ -1,17 +1,12 @@
 -- What is printed of a module's file.
 use Rattle.std.specs.Prelude.{◌≡◌, Option, Some}
-use Rattle.std.specs.Option.{option_map}
 use Rattle.qk_ast.specs.declared.Module.{Module}
 use Rattle.qk_ast.specs.declared.Form.TheVariants.{Source}
 use Rattle.qk_ast.specs.Derives.{Derives}
 use Rattle.qk_ast.specs.Texts.{Text}
 use Rattle.qk_store.specs.Files.{Files}
-use Rattle.qk_store.specs.Pieces.{with_piece}
+use Rattle.qk_store.specs.Pieces.{IsPut}
 use Rattle.qk_print.specs.Printing.{print_text}
-
--- all of the text was put
-abbrev pub IsPut : Text → Option Text → Option Text → Type 0
-IsPut text before after = after ≡ option_map (with_piece text) before
 
 -- the source derives a module, whose text as built files have it was put
 pub record IsPrinted (source : Text) (before after : Option Text) : Type 0 where

@@ -2,7 +2,8 @@
 
 ghost use Rattle.std.specs.Prelude.{◌≡◌, Some, OnOk};
 ghost use Rattle.qk_print.specs.Printing.{print_text};
-ghost use Rattle.qk_reprint.specs.Reprinting.{Reprints, IsPrinted, IsPut};
+ghost use Rattle.qk_store.specs.Pieces.{IsPut};
+ghost use Rattle.qk_reprint.specs.Reprinting.{Reprints, IsPrinted};
 
 use qk_ast::{Form, Module};
 use qk_base::limits;

@@ -10,3 +10,12 @@ with_piece piece put = put ++ piece
 pub record AppendsFront (piece : List ℕ) (before after : Option (List ℕ)) : Type 0 where
   pub taken : ℕ
   pub appended : after ≡ option_map (with_piece (take taken piece)) before
+
+-- all of the piece was put
+abbrev pub IsPut : List ℕ → Option (List ℕ) → Option (List ℕ) → Type 0
+IsPut piece before after = after ≡ option_map (with_piece piece) before
+
+-- the first piece was put whole, and behind it a front of the second
+pub record PutsInPart (first second : List ℕ) (before after : Option (List ℕ)) : Type 0 where
+  pub taken : ℕ
+  pub appended : after ≡ option_map (with_piece (first ++ take taken second)) before

@@ -1,11 +1,11 @@
 -- The clauses of the top call, from what comes of the command and how its last line is put.
-use Rattle.std.proofs.Common.{◌≡◌, ℕ, List, [], ◌∷◌, ◌++◌, refl, sym, ap, ◌∙◌, subst, append-nil, arith, Option, Some, None, ◌⊎◌, inl, inr}
+use Rattle.std.proofs.Common.{◌≡◌, ℕ, List, [], ◌∷◌, ◌++◌, refl, sym, ap, ◌∙◌, subst, arith, take, Option, Some, None, ◌⊎◌, inl, inr}
 use Rattle.std.specs.Prelude.{Result, Err, codes}
 use Rattle.std.specs.Option.{option_map}
 use Rattle.qk_ast.specs.declared.Module.{Module}
 use Rattle.qk_store.specs.Files.{Files}
 use Rattle.qk_store.specs.Causes.{Rose}
-use Rattle.qk_store.specs.Pieces.{with_piece, AppendsFront}
+use Rattle.qk_store.specs.Pieces.{with_piece, IsPut, PutsInPart}
 use Rattle.qk_meaning.specs.Value.{Text}
 use Rattle.qk_meaning.specs.Item.{Event}
 use Rattle.qk_meaning.specs.Output.{line}
@@ -14,17 +14,13 @@ use Rattle.qk_top.specs.declared.stop.Stop.TheVariants.{Usage, Script, Applicati
 use Rattle.qk_top.specs.Words.{IsReplay}
 use Rattle.qk_top.specs.Script.{SpellsEvents, RefusedText}
 use Rattle.qk_top.specs.Saying.{Said, said_line}
-use Rattle.qk_top.specs.Answers.{IsUsage, Plays, RefusedScript, gone_script, refused_script, RefusedApplication, IsAccepted, IsOutput, Answers, played, usage, application as refused_application, script, store_failed, IsFront, nothing, begun, memory, memory_alone}
-use Rattle.qk_top.specs.Stops.{status_of, last_line_of, EndsForFaults, IsPut, PutsLastLine, whole, in_part, in_want, Finishes}
+use Rattle.qk_top.specs.Answers.{IsUsage, Plays, RefusedScript, gone_script, refused_script, RefusedApplication, IsAccepted, IsOutput, Answers, played, usage, application as refused_application, script, store_failed, IsFront, nothing, begun, memory, memory_alone, IsUnderWay, block, refusal, want}
+use Rattle.qk_top.specs.Stops.{status_of, last_line_of, EndsForFaults, PutsLastLine, whole, in_part, in_want, Finishes}
 use Rattle.qk_top.specs.Coming.{CommandPlays, CommandComes}
 use Rattle.qk_top.specs.Run.{IsOneOf, Comes}
-use Rattle.qk_top.proofs.Plays.{front_behind, pieces_join}
+use Rattle.qk_top.proofs.Plays.{pieces_join, put_nothing}
 use Rattle.qk_top.proofs.Accepted.{one_played, one_said, accepted_not_said}
 use Rattle.qk_top.proofs.Scripts.{one_script, not_refused, one_refusal}
-
-put_nothing : (o : Option (List ℕ)) → o ≡ option_map (with_piece []) o
-put_nothing None = refl
-put_nothing (Some b) = ap Some (sym (append-nil b))
 
 eight_seven : (status : ℕ) → status ≡ 8 → status ≡ 7 → ⊥
 eight_seven status e f = omega arith
@@ -72,7 +68,7 @@ module _ (words : List Text) (told : Files) where
   Whole before after status = (text : Text) × Answers words told status text × IsPut text before after
 
   Front : Option Text → Option Text → Type 0
-  Front before after = (other : ℕ) × (text : Text) × Answers words told other text × AppendsFront text before after
+  Front before after = (put : Text) × (piece : Text) × IsUnderWay words told put piece × PutsInPart put piece before after
 
   -- a last line behind nothing
   quiet_whole : (stop : Stop) (before between after : Option Text) (f g status : ℕ) → Answers words told (status_of stop) (last_line_of stop) → between ≡ before → PutsLastLine stop between after f g status → ¬ (status ≡ 7) → Whole before after status
@@ -83,11 +79,13 @@ module _ (words : List Text) (told : Files) where
   quiet_whole stop before between after f g status answer same (in_want e kept faults) other =
       ([], subst (λ s. Answers words told s []) (sym e) (memory_alone nothing), kept ∙ same ∙ put_nothing before)
 
-  quiet_front : (stop : Stop) (before between after : Option Text) (f g status : ℕ) → Answers words told (status_of stop) (last_line_of stop) → between ≡ before → PutsLastLine stop between after f g status → status ≡ 7 → ¬ (status_of stop ≡ 7) → Front before after
+  quiet_front : (stop : Stop) (before between after : Option Text) (f g status : ℕ) → Answers words told (status_of stop) (last_line_of stop) → between ≡ before → PutsLastLine stop between after f g status → status ≡ 7
+      → ¬ (status_of stop ≡ 7) → ¬ (status_of stop ≡ 0) → ¬ (status_of stop ≡ 8) → Front before after
   unfolding Front
-  quiet_front stop before between after f g status answer same (whole e put kept) seven other = absurd (other (sym e ∙ seven))
-  quiet_front stop before between after f g status answer same (in_part e front rose later) seven other = (status_of stop, last_line_of stop, answer, subst (λ b. AppendsFront (last_line_of stop) b after) same front)
-  quiet_front stop before between after f g status answer same (in_want e kept faults) seven other = absurd (eight_seven status e seven)
+  quiet_front stop before between after f g status answer same (whole e put kept) seven other some small = absurd (other (sym e ∙ seven))
+  quiet_front stop before between after f g status answer same (in_part e front rose later) seven other some small =
+      ([], last_line_of stop, refusal answer some small, record { taken = front.taken; appended = front.appended ∙ ap (option_map (with_piece (take front.taken (last_line_of stop)))) same })
+  quiet_front stop before between after f g status answer same (in_want e kept faults) seven other some small = absurd (eight_seven status e seven)
 
   -- the line `memory` behind a front of what was played
   memory_whole : (before between after : Option Text) (f g status : ℕ) (text : Text) → IsFront words told text → between ≡ option_map (with_piece text) before → PutsLastLine Memory between after f g status → ¬ (status ≡ 7) → Whole before after status
@@ -105,11 +103,8 @@ module _ (words : List Text) (told : Files) where
   unfolding Front
   memory_front before between after f g status text front part (whole e put kept) seven = absurd (eight_seven status e seven)
   memory_front before between after f g status text front part (in_part e begins rose later) seven =
-      (8, text ++ last_line_of Memory, memory front, front_behind text (last_line_of Memory) (text ++ last_line_of Memory) before between after part begins refl)
+      (text, last_line_of Memory, want front, record { taken = begins.taken; appended = begins.appended ∙ ap (option_map (with_piece (take begins.taken (last_line_of Memory)))) part ∙ pieces_join text (take begins.taken (last_line_of Memory)) before })
   memory_front before between after f g status text front part (in_want e kept faults) seven = absurd (eight_seven status e seven)
-
-  accepted_answer : (text : Text) → CommandPlays words told text → Answers words told 0 text
-  accepted_answer text plays = played plays.accepted plays.printed
 
   -- ---- what is printed where the command ended before all was done
 
@@ -124,18 +119,18 @@ module _ (words : List Text) (told : Files) where
   printed_whole Memory before between after f g status (inl same) ends other =
       memory_whole before between after f g status [] nothing (same ∙ put_nothing before) ends other
   printed_whole Memory before between after f g status (inr part) ends other =
-      memory_whole before between after f g status _ (begun part.2.taken part.1.accepted part.1.printed) part.2.appended ends other
+      memory_whole before between after f g status part.3.text (begun part.3.n part.2 part.3.blocks) part.3.put ends other
 
   pub printed_front : (stop : Stop) (before between after : Option Text) (f g status : ℕ) → CommandComes words told before between (Err stop) → Finishes stop between after f g status → status ≡ 7
-      → (other : ℕ) × (text : Text) × Answers words told other text × AppendsFront text before after
+      → (put : Text) × (piece : Text) × IsUnderWay words told put piece × PutsInPart put piece before after
   unfolding Front
-  printed_front Usage before between after f g status comes ends seven = quiet_front Usage before between after f g status (usage comes.0) comes.1 ends seven (λ e. omega arith)
-  printed_front (Script kind) before between after f g status comes ends seven = quiet_front (Script kind) before between after f g status (script comes.0) comes.1 ends seven (λ e. omega arith)
-  printed_front (Application kind) before between after f g status comes ends seven = quiet_front (Application kind) before between after f g status (refused_application comes.0) comes.1 ends seven (λ e. omega arith)
-  printed_front StoreFailed before between after f g status comes ends seven = quiet_front StoreFailed before between after f g status store_failed comes ends seven (λ e. omega arith)
-  printed_front SinkFailed before between after f g status comes ends seven = (0, comes.0, accepted_answer comes.0 comes.1, record { taken = comes.2.taken; appended = ends.1 ∙ comes.2.appended })
+  printed_front Usage before between after f g status comes ends seven = quiet_front Usage before between after f g status (usage comes.0) comes.1 ends seven (λ e. omega arith) (λ e. omega arith) (λ e. omega arith)
+  printed_front (Script kind) before between after f g status comes ends seven = quiet_front (Script kind) before between after f g status (script comes.0) comes.1 ends seven (λ e. omega arith) (λ e. omega arith) (λ e. omega arith)
+  printed_front (Application kind) before between after f g status comes ends seven = quiet_front (Application kind) before between after f g status (refused_application comes.0) comes.1 ends seven (λ e. omega arith) (λ e. omega arith) (λ e. omega arith)
+  printed_front StoreFailed before between after f g status comes ends seven = quiet_front StoreFailed before between after f g status store_failed comes ends seven (λ e. omega arith) (λ e. omega arith) (λ e. omega arith)
+  printed_front SinkFailed before between after f g status comes ends seven = (comes.3.text, comes.3.piece, block comes.2 comes.3.blocks comes.3.next, record { taken = comes.3.put.taken; appended = ends.1 ∙ comes.3.put.appended })
   printed_front Memory before between after f g status (inl same) ends seven = memory_front before between after f g status [] nothing (same ∙ put_nothing before) ends seven
-  printed_front Memory before between after f g status (inr part) ends seven = memory_front before between after f g status _ (begun part.2.taken part.1.accepted part.1.printed) part.2.appended ends seven
+  printed_front Memory before between after f g status (inr part) ends seven = memory_front before between after f g status part.3.text (begun part.3.n part.2 part.3.blocks) part.3.put ends seven
 
   -- ---- the line of a refused script
 

@@ -1,9 +1,10 @@
 -- What is printed with the status of words that are no command.
 use Rattle.std.proofs.Common.{◌≡◌, ℕ, ◌∙◌, sym, subst, arith, Option, refl}
+use Rattle.qk_store.specs.Pieces.{IsPut}
 use Rattle.qk_meaning.specs.Value.{Text}
 use Rattle.qk_top.specs.declared.stop.Stop.{Stop}
 use Rattle.qk_top.specs.declared.stop.Stop.TheVariants.{Usage, Script, Application, StoreFailed, SinkFailed, Memory}
-use Rattle.qk_top.specs.Stops.{last_line_of, IsPut, whole, in_part, in_want, Finishes}
+use Rattle.qk_top.specs.Stops.{last_line_of, whole, in_part, in_want, Finishes}
 
 unlike : (n : ℕ) {status : ℕ} {A : Type 0} → status ≡ n → status ≡ 1 → (n ≡ 1 → ⊥) → A
 unlike n e one other = absurd (other (sym e ∙ one))

@@ -1,5 +1,5 @@
 -- What the program answers: each status with its cause, and with all that is printed.
-use Rattle.std.specs.Prelude.{◌≡◌, ℕ, List, [], ◌∷◌, ◌++◌, Some, None, Ok, Err, take, codes, map}
+use Rattle.std.specs.Prelude.{◌≡◌, ℕ, suc, List, [], ◌∷◌, ◌++◌, Some, None, Ok, Err, take, codes, map}
 use Rattle.qk_ast.specs.declared.Module.{Module}
 use Rattle.qk_first.specs.Shape.{HasFirstShape}
 use Rattle.qk_store.specs.Files.{Files}
@@ -64,10 +64,16 @@ pub record IsOutput (m : Module) (events : List Event) (text : Text) : Type 0 wh
   pub run : Run (application_of m) (λ w. w) (map Happens events) entries
   pub printed : text ≡ output (application_of m) entries
 
--- a front of what is printed where the command is accepted, or nothing
+-- the first n blocks that are printed of that run, whole
+pub record IsBlocks (m : Module) (events : List Event) (n : ℕ) (text : Text) : Type 0 where
+  pub entries : List Entry
+  pub run : Run (application_of m) (λ w. w) (map Happens events) entries
+  pub printed : text ≡ output (application_of m) (take n entries)
+
+-- whole blocks of what is printed where the command is accepted, or nothing
 pub data IsFront (words : List Text) (told : Files) : Text → Type 0 where
   nothing : IsFront words told []
-  begun : {m : Module} {events : List Event} {text : Text} (n : ℕ) → IsAccepted words told m events → IsOutput m events text → IsFront words told (take n text)
+  begun : {m : Module} {events : List Event} {text : Text} (n : ℕ) → IsAccepted words told m events → IsBlocks m events n text → IsFront words told text
 
 -- each status with its cause and all that is printed
 pub data Answers (words : List Text) (told : Files) : ℕ → Text → Type 0 where
@@ -76,6 +82,12 @@ pub data Answers (words : List Text) (told : Files) : ℕ → Text → Type 0 wh
   application : {said : Said} → RefusedApplication words told said → Answers words told 2 (said_line said)
   script : {kind : Text} → RefusedScript words told kind → Answers words told 5 (line (codes "refused " ++ kind))
   store_failed : Answers words told 6 (line (codes "store failed"))
-  -- want of memory: a front of what would have been played, then the last line or nothing
+  -- want of memory: whole blocks of what would have been played, then the last line or nothing
   memory : {front : Text} → IsFront words told front → Answers words told 8 (front ++ line (codes "memory"))
   memory_alone : {front : Text} → IsFront words told front → Answers words told 8 front
+
+-- the piece that is under way behind what was put whole: the next block, or a last line
+pub data IsUnderWay (words : List Text) (told : Files) : (put piece : Text) → Type 0 where
+  block : {m : Module} {events : List Event} {n : ℕ} {put piece : Text} → IsAccepted words told m events → IsBlocks m events n put → IsBlocks m events (suc n) (put ++ piece) → IsUnderWay words told put piece
+  refusal : {status : ℕ} {piece : Text} → Answers words told status piece → ¬ (status ≡ 0) → ¬ (status ≡ 8) → IsUnderWay words told [] piece
+  want : {put : Text} → IsFront words told put → IsUnderWay words told put (line (codes "memory"))

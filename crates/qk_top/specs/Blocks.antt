@@ -1,6 +1,7 @@
 -- The block of one event, and the counter that the program keeps.
-use Rattle.std.specs.Prelude.{ℕ, suc, ℤ, true, false, List, [], ◌∷◌, ◌++◌, Option, Some, None, unwrap_or, codes}
+use Rattle.std.specs.Prelude.{◌≡◌, ℕ, zero, suc, ℤ, take, true, false, List, [], ◌∷◌, ◌++◌, Option, Some, None, unwrap_or, codes}
 use Rattle.std.specs.Option.{option_map}
+use Rattle.qk_store.specs.Pieces.{with_piece}
 use Rattle.qk_meaning.specs.Value.{Text}
 use Rattle.qk_meaning.specs.Item.{Event}
 use Rattle.qk_meaning.specs.Output.{line}
@@ -56,3 +57,21 @@ first_text c = item_text 0 ++ html_text c c.initial
 -- all that is printed of these events
 unfoldable pub played_text : Counter → List Event → Text
 played_text c events = first_text c ++ events_text c 1 c.initial events
+
+-- the text of the first blocks, so many
+abbrev pub blocks_text : Counter → List Event → ℕ → Text
+blocks_text c events zero = []
+blocks_text c events (suc k) = played_text c (take k events)
+
+-- whole blocks were put
+pub record PutsBlocks (c : Counter) (events : List Event) (before after : Option Text) : Type 0 where
+  pub n : ℕ
+  pub put : after ≡ option_map (with_piece (blocks_text c events n)) before
+
+-- whole blocks were put, and a part of the next one
+pub record PutsPartOfBlock (c : Counter) (events : List Event) (before after : Option Text) : Type 0 where
+  pub n : ℕ
+  pub piece : Text
+  pub next : blocks_text c events (suc n) ≡ blocks_text c events n ++ piece
+  pub taken : ℕ
+  pub put : after ≡ option_map (with_piece (blocks_text c events n ++ take taken piece)) before

@@ -2,14 +2,13 @@
 use Rattle.std.specs.Prelude.{◌≡◌, ◌⊎◌, ℕ, List, [], ◌∷◌, ◌++◌, Option, Some, codes}
 use Rattle.qk_ast.specs.declared.Module.{Module}
 use Rattle.qk_store.specs.Files.{Files}
-use Rattle.qk_store.specs.Pieces.{AppendsFront}
 use Rattle.qk_store.specs.Causes.{Rose}
+use Rattle.qk_store.specs.Pieces.{IsPut, PutsInPart}
 use Rattle.qk_meaning.specs.Value.{Text}
 use Rattle.qk_meaning.specs.Item.{Event}
 use Rattle.qk_meaning.specs.Output.{line}
 use Rattle.qk_top.specs.Saying.{Said, said_line}
-use Rattle.qk_top.specs.Answers.{RefusedScript, RefusedApplication, IsAccepted, IsOutput, Answers}
-use Rattle.qk_top.specs.Stops.{IsPut}
+use Rattle.qk_top.specs.Answers.{RefusedScript, RefusedApplication, IsAccepted, IsOutput, Answers, IsUnderWay}
 
 -- The headline: for an accepted application and script that were played, what is printed is the output of the run of the original module.
 abbrev pub Headline : List Text → Option Files → Option Text → Option Text → ℕ → Type 0
@@ -27,10 +26,10 @@ abbrev pub Printed : List Text → Option Files → Option Text → Option Text 
 Printed words files before after status =
     (told : Files) → files ≡ Some told → ¬ (status ≡ 7) → (text : Text) × Answers words told status text × IsPut text before after
 
--- With status 7 a front of some answer is printed.
+-- With status 7 whole blocks are printed, and a front of the piece that was under way: of the next block, or of a last line.
 abbrev pub PrintedFront : List Text → Option Files → Option Text → Option Text → ℕ → Type 0
 PrintedFront words files before after status =
-    (told : Files) → files ≡ Some told → status ≡ 7 → (other : ℕ) × (text : Text) × Answers words told other text × AppendsFront text before after
+    (told : Files) → files ≡ Some told → status ≡ 7 → (put : Text) × (piece : Text) × IsUnderWay words told put piece × PutsInPart put piece before after
 
 -- With status 5 the cause that holds of the script is printed.
 abbrev pub ScriptLine : List Text → Option Files → Option Text → Option Text → ℕ → Type 0

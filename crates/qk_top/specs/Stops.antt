@@ -1,8 +1,7 @@
 -- Why a command ends before all is done: the status, the last line, and what shows it.
 use Rattle.std.specs.Prelude.{◌≡◌, ◌≤◌, ℕ, [], ◌++◌, Option, Result, IsErrOf, codes}
-use Rattle.std.specs.Option.{option_map}
 use Rattle.qk_store.specs.Causes.{Rose}
-use Rattle.qk_store.specs.Pieces.{with_piece, AppendsFront}
+use Rattle.qk_store.specs.Pieces.{IsPut, AppendsFront}
 use Rattle.qk_meaning.specs.Value.{Text}
 use Rattle.qk_meaning.specs.Output.{line}
 use Rattle.qk_top.specs.Decimals.{count_text}
@@ -36,10 +35,6 @@ last_line_of (Script kind) = line (codes "refused " ++ script_kind kind)
 last_line_of StoreFailed = line (codes "store failed")
 last_line_of SinkFailed = []
 last_line_of Memory = line (codes "memory")
-
--- all of the text was put
-abbrev pub IsPut : Text → Option Text → Option Text → Type 0
-IsPut text before after = after ≡ option_map (with_piece text) before
 
 -- of one object that counts its faults: the command ends for it only where the count rose, and else the count stays
 pub record EndsForFaults {T : Type 0} (stop : Stop) (before now : ℕ) (result : Result T Stop) : Type 0 where

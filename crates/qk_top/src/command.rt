@@ -1,10 +1,10 @@
 ghost use Rattle.std.specs.Prelude.{◌≡◌, ◌≤◌, ◌<◌, ◌⊎◌, Some, [], ◌∷◌, map, string_bytes, codes};
 ghost use Rattle.std.specs.Option.{option_map};
 ghost use Rattle.qk_store.specs.Causes.{Rose};
-ghost use Rattle.qk_store.specs.Pieces.{with_piece, AppendsFront};
+ghost use Rattle.qk_store.specs.Pieces.{with_piece, AppendsFront, IsPut};
 ghost use Rattle.qk_meaning.specs.Output.{line};
 ghost use Rattle.qk_top.specs.Answers.{IsUsage};
-ghost use Rattle.qk_top.specs.Stops.{IsPut, PutsLastLine, Finishes};
+ghost use Rattle.qk_top.specs.Stops.{PutsLastLine, Finishes};
 ghost use Rattle.qk_top.specs.Reads.{ReadsInOrder};
 ghost use Rattle.qk_top.specs.Run.{Headline, Complete, Printed, PrintedFront, Comes, ScriptLine, ApplicationLine, IsOneOf};
 

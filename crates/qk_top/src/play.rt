@@ -1,10 +1,10 @@
-ghost use Rattle.std.specs.Prelude.{◌≡◌, ◌≤◌, ◌<◌, ◌+◌, ◌^◌, ℤ, Option, List, ℕ, map, length, IfOk, OnOk};
+ghost use Rattle.std.specs.Prelude.{◌≡◌, ◌≤◌, ◌<◌, ◌+◌, ◌^◌, ℤ, Option, List, ℕ, map, length, IfOk, OnOk, IsErrOf};
 ghost use Rattle.std.specs.Option.{option_map};
 ghost use Rattle.qk_store.specs.Causes.{HasCause};
 ghost use Rattle.qk_store.specs.Pieces.{with_piece, AppendsFront};
 ghost use Rattle.qk_script.specs.Answer.{event_of};
 ghost use Rattle.qk_first.specs.Kept.{counter_in};
-ghost use Rattle.qk_top.specs.Blocks.{number_after, first_text, event_text, played_text};
+ghost use Rattle.qk_top.specs.Blocks.{number_after, first_text, event_text, played_text, PutsBlocks, PutsPartOfBlock};
 ghost use lib.Signed.{mag};
 
 use crate::blocks::{push_event, push_first};
@@ -23,7 +23,8 @@ pub(crate) fn play<K: Sink>(
     requires initial { mag counter.now.initial ≤ 1000000 }
     requires short { length events.now ≤ 65536 }
     ensures played { OnOk result (K.bytes out.new ≡ option_map (with_piece (played_text (counter_in counter.now) (map (λ e. event_of e.now) events.now))) (K.bytes out.old)) }
-    ensures front { AppendsFront (played_text (counter_in counter.now) (map (λ e. event_of e.now) events.now)) (K.bytes out.old) (K.bytes out.new) }
+    ensures failed { IsErrOf result SinkFault.Failed → PutsPartOfBlock (counter_in counter.now) (map (λ e. event_of e.now) events.now) (K.bytes out.old) (K.bytes out.new) }
+    ensures want { IsErrOf result SinkFault.Memory → PutsBlocks (counter_in counter.now) (map (λ e. event_of e.now) events.now) (K.bytes out.old) (K.bytes out.new) }
     ensures cause { HasCause SinkFault.Failed SinkFault.Memory (K.faults out.old) (K.faults out.new) result }
 {
     let mut block = String::new(alloc);
@@ -39,6 +40,7 @@ pub(crate) fn play<K: Sink>(
 fn put_first<K: Sink>(counter: &Counter, block: &mut String, out: &mut K) -> Result<(), SinkFault>
     ensures played { OnOk result (K.bytes out.new ≡ option_map (with_piece (first_text (counter_in counter.now))) (K.bytes out.old)) }
     ensures front { AppendsFront (first_text (counter_in counter.now)) (K.bytes out.old) (K.bytes out.new) }
+    ensures want { IsErrOf result SinkFault.Memory → K.bytes out.new ≡ K.bytes out.old }
     ensures cause { HasCause SinkFault.Failed SinkFault.Memory (K.faults out.old) (K.faults out.new) result }
 {
     block.clear();
@@ -59,6 +61,7 @@ fn put_event<K: Sink>(
     ensures number { IfOk result (λ after. after ≡ number_after (counter_in counter.now) number (event_of event.now)) }
     ensures played { OnOk result (K.bytes out.new ≡ option_map (with_piece (event_text (counter_in counter.now) item number (event_of event.now))) (K.bytes out.old)) }
     ensures front { AppendsFront (event_text (counter_in counter.now) item number (event_of event.now)) (K.bytes out.old) (K.bytes out.new) }
+    ensures want { IsErrOf result SinkFault.Memory → K.bytes out.new ≡ K.bytes out.old }
     ensures cause { HasCause SinkFault.Failed SinkFault.Memory (K.faults out.old) (K.faults out.new) result }
 {
     block.clear();

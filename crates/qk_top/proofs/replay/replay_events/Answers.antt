@@ -1,7 +1,7 @@
 use Rattle.std.proofs.Common.{rules, inr}
 use Rattle.std.proofs.lemmas.List.{length-map}
 use Rattle.qk_top.specs.declared.refusal.Kind.TheVariants as kind
-use Rattle.qk_top.proofs.Comings.{application_plays, fault_ended, not_built_ended}
+use Rattle.qk_top.proofs.Comings.{application_plays, application_is, part_put, blocks_put, fault_ended, not_built_ended}
 use Rattle.qk_top.proofs.Stopped.{no_usage, no_store, no_sink}
 use Rattle.qk_top.proofs.replay.replay_events.Goals as goal
 
@@ -19,12 +19,12 @@ returns-in-Ok-clause-comes g c told e =
 pub returns-in-Err-Failed-clause-comes : goal.returns-in-Err-Failed-clause-comes
 returns-in-Err-Failed-clause-comes g c told e =
     let some = c.in-Some.ensures.some in
-    (_, application_plays told _ some.0 _ _ (c.in_ok-application.ensures.found told e) some.1 some.2 (rw length-map c.requires), c.play.ensures.front)
+    (some.0, application_is told _ some.0 _ (c.in_ok-application.ensures.found told e) some.1 some.2, part_put some.0 _ _ _ _ some.2 (rw length-map c.requires) (c.play.ensures.failed (search rules)))
 
 pub returns-clause-comes : goal.returns-clause-comes
 returns-clause-comes g c told e =
     let some = c.in-Some.ensures.some in
-    inr (_, application_plays told _ some.0 _ _ (c.in_ok-application.ensures.found told e) some.1 some.2 (rw length-map c.requires), c.play.ensures.front)
+    inr (some.0, application_is told _ some.0 _ (c.in_ok-application.ensures.found told e) some.1 some.2, blocks_put some.0 _ _ _ _ some.2 (rw length-map c.requires) (c.play.ensures.want (search rules)))
 
 pub returns-in_default-clause-command : goal.returns-in_default-clause-command
 returns-in_default-clause-command g c e = no_usage kind.NotBuilt _ c.refused_root.ensures e
