@@ -19,9 +19,8 @@ mod tables;
 pub use jsx::{attribute_text, jsx_text};
 pub use reading::tokens;
 pub use scan::split_first;
-pub use tables::is_same;
-
 use std::alloc::{AllocError, AllocFailed};
+pub use tables::is_same;
 
 /// A token of a text.
 #[derive(Clone, Copy, Debug, PartialEq, Eq)]

@@ -52,7 +52,7 @@ events_more c k n [] e = append-nil (event_text c k n e)
 events_more c k n (x ∷ rest) e =
     let further : length rest + suc k ≡ suc (length rest + k) = omega arith in
     ap (λ t. event_text c k n x ++ t) (events_more c (suc k) (number_after c n x) rest e
-        ∙ ap (λ j. events_text c (suc k) (number_after c n x) rest ++ event_text c j (number_behind c (number_after c n x) rest) e) further)
+    ∙ ap (λ j. events_text c (suc k) (number_after c n x) rest ++ event_text c j (number_behind c (number_after c n x) rest) e) further)
     ∙ sym (append_assoc (event_text c k n x) _ _)
 
 taken_more : (events : List Event) (index : ℕ) (event : Event) → index < length events → event ≡ get_or events index event → take (suc index) events ≡ take index events ++ event ∷ []
@@ -66,8 +66,8 @@ next_block c events index n event number below e =
     let so_many : length (take index events) ≡ index = length-take-le index events (omega (arith, below)) in
     ap (λ es. first_text c ++ events_text c 1 c.initial es) (taken_more events index event below e)
     ∙ ap (λ t. first_text c ++ t) (events_more c 1 c.initial (take index events) event
-        ∙ ap (λ j. events_text c 1 c.initial (take index events) ++ event_text c (j + 1) (number_behind c c.initial (take index events)) event) so_many
-        ∙ ap (λ m. events_text c 1 c.initial (take index events) ++ event_text c (index + 1) m event) (sym number))
+    ∙ ap (λ j. events_text c 1 c.initial (take index events) ++ event_text c (j + 1) (number_behind c c.initial (take index events)) event) so_many
+    ∙ ap (λ m. events_text c 1 c.initial (take index events) ++ event_text c (index + 1) m event) (sym number))
     ∙ sym (append_assoc (first_text c) _ _)
 
 -- the first block alone
