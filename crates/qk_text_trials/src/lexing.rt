@@ -97,11 +97,10 @@ fn which_begin_jsx(rt: HostRuntime) -> Result<(), Fail> {
 fn tokens(alloc: Global, text: &str) -> Result<String, Fail> {
     let mut told = String::new(alloc);
     let found = lex(alloc, text)?;
-    let mut left = found.tokens().len();
-    for token in found.tokens() {
-        let place = found.place_of(left);
+    let tokens = found.tokens();
+    for (i, token) in tokens.iter().enumerate() {
+        let place = found.place_of(tokens.len().saturating_sub(i));
         told.push_str(format!(in alloc; "{place} {token:?}\n")?.as_str())?;
-        left = left.saturating_sub(1);
     }
     told.push_str(format!(in alloc; "{}", found.place_of(0))?.as_str())?;
     Ok(told)
