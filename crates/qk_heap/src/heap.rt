@@ -84,7 +84,7 @@ impl Heap {
         object.at(&l.key)
     }
 
-    /// Reads the value at a location, undefined where none stands there, and tells the watch.
+    /// Reads the value at a location, undefined where none stands there, and tells the watch. Want of memory tells nothing.
     pub fn read<W: Watch>(&self, l: &Loc, w: &mut W) -> Result<Value, HeapStop>
         requires { l.now.addr.0 < length self.now }
         ensures value { IfOk result (λ v. (names : Site → List texts.Text) → seen names v ≡ or_undefined (standing (heap_seen names self.now) (loc_seen l.now))) }
@@ -118,7 +118,12 @@ impl Heap {
         Ok(())
     }
 
-    /// A key of the object at an address is written.
+    /// A key of the object at an address is written, and the watch is told of each location that changes; where the value is the same it is told nothing.
+    ///
+    /// # Errors
+    ///
+    /// The fault of the definition: `FixedWrite` of props and of a computed, `NoProperty` or `TypeMismatch` of the key, `IndexPastEnd`, `ListTooLong`.
+    /// Nothing was told then. Or memory. The heap stays as it was.
     pub fn write<W: Watch>(
         &mut self,
         a: Addr,
@@ -135,7 +140,12 @@ impl Heap {
         write_in(self.alloc, &mut self.objects, a, k, v, w)
     }
 
-    /// A key of the object at an address is deleted.
+    /// A key of the object at an address is deleted, and the watch is told of each location that changes.
+    ///
+    /// # Errors
+    ///
+    /// `FixedWrite` of props and of a computed, `NoProperty` of a key that no value has, and `TypeMismatch` of an array and of a signal. Nothing was
+    /// told then. Or memory. The heap stays as it was.
     pub fn remove<W: Watch>(&mut self, a: Addr, k: &str, w: &mut W) -> Result<(), HeapStop>
         requires { a.0 < length self.old }
         ensures became { OnOk result ((names : Site → List texts.Text) → HeapBecame W.stands_for names a.0 (deleted_from (object_at (heap_seen names self.old) a.0) k.now) self.old self.new w.old w.new) }
@@ -147,6 +157,10 @@ impl Heap {
     }
 
     /// One item more at the end of the array at an address; the new length is given.
+    ///
+    /// # Errors
+    ///
+    /// `ListTooLong` where 65,536 stand there, and nothing was told then; or memory. The heap stays as it was.
     pub fn push<W: Watch>(&mut self, a: Addr, v: Value, w: &mut W) -> Result<u64, HeapStop>
         requires made { a.0 < length self.old }
         requires array { HoldsArray self.old a.0 }
@@ -159,7 +173,7 @@ impl Heap {
         push_in(&mut self.objects, a, v, w)
     }
 
-    /// The last item of the array at an address goes and is given; undefined where there is none.
+    /// The last item of the array at an address goes and is given; undefined where there is none. Want of memory leaves the heap as it was.
     pub fn pop<W: Watch>(&mut self, a: Addr, w: &mut W) -> Result<Value, HeapStop>
         requires made { a.0 < length self.old }
         requires array { HoldsArray self.old a.0 }
@@ -171,7 +185,8 @@ impl Heap {
         pop_in(&mut self.objects, a, w)
     }
 
-    /// So many items of the array at an address go from a place on, and are given; a negative place is counted from the end.
+    /// So many items of the array at an address go from a place on, and are given; a negative place is counted from the end. Want of memory leaves the
+    /// heap as it was.
     pub fn splice<W: Watch>(
         &mut self,
         a: Addr,
