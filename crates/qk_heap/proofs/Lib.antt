@@ -1,0 +1,16 @@
+pub mod Named
+pub mod Alike
+pub mod Changing
+pub mod Listing
+pub mod Entries
+pub mod Indexed
+pub mod Hearing
+pub mod Field_changes
+pub mod Digits
+pub mod Item_changes
+pub mod Standing_values
+pub mod Heap_changes
+pub mod Shifted
+pub mod Whole_reads
+pub mod Read_laws
+pub mod Set_fields

@@ -1,0 +1,9 @@
+pub mod Distinct
+pub mod Told
+pub mod Seen
+pub mod Becoming
+pub mod Keys
+pub mod Standing
+pub mod Laws
+pub mod Cutting
+pub mod Set_props
