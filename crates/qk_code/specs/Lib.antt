@@ -1,0 +1,10 @@
+pub mod Sources
+pub mod Shallow
+pub mod Counts
+pub mod Asked
+pub mod Stops
+pub mod Modes
+pub mod Standing
+pub mod Hooks
+pub mod World
+pub mod Ran

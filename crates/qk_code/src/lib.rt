@@ -1,0 +1,14 @@
+//! What code stands on while it runs: where its functions come from, who is told of what it does, and why it stops.
+#![tactic(auto)]
+
+mod code;
+mod func;
+mod host;
+mod mode;
+mod stop;
+
+pub use code::Code;
+pub use func::{Func, Root};
+pub use host::{HookAnswer, HookKind, Host};
+pub use mode::{Mode, Part};
+pub use stop::{CodeFault, Stop};
