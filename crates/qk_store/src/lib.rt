@@ -22,3 +22,6 @@ pub use no_fail::{NoFailSink, NoFailStore};
 pub use sink::{Sink, SinkFault};
 pub use stdout::OutSink;
 pub use store::Store;
+
+#[cfg(test)]
+mod tests;
