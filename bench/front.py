@@ -4,8 +4,10 @@
 An application is played with an empty script; it keeps all rules and is then refused as not yet played. Beside it stands the same one whose `App`
 isn't exported, which is refused when all modules are read and parsed, before the first rule of names. So what the rules cost is the difference.
 Once one module grows to 1 MiB, once modules of 4 KiB grow to 256. Each figure is the least processor time of many runs of the whole process, less its
-start (no application). `rules / parsing` is to be 1 at most; `growth` is that of the row over the row before, 4.0 being linear."""
-import os, subprocess, sys, tempfile
+start (no application). `rules / parsing` is to be 1 at most; `growth` is that of the row over the row before, 4.0 being linear.
+
+With `--instructions` each figure is the number of instructions of one run, in millions, as valgrind counts them: exact on a busy machine too."""
+import os, re, subprocess, sys, tempfile
 
 sys.dont_write_bytecode = True
 from pages import pages
@@ -84,26 +86,36 @@ def run(folder):
         return used.ru_utime + used.ru_stime, out.read().decode().strip()
 
 
+def instructions(folder):
+    """The millions of instructions of a run, and what it answers."""
+    told = subprocess.run(["valgrind", "--tool=callgrind", "--callgrind-out-file=/dev/null", qwk, "replay", "s"], cwd=folder, capture_output=True, text=True)
+    if told.returncode != 2:
+        raise SystemExit(f"status {told.returncode}: {told.stderr[-200:]}")
+    return int(re.search(r"Collected : (\d+)", told.stderr).group(1)) / 1e6, told.stdout.strip()
+
+
 def best(files, wanted, runs=15):
-    """The least seconds of many runs that answer this."""
+    """The least seconds of many runs that answer this, in milliseconds; or the instructions of one."""
     with tempfile.TemporaryDirectory() as folder:
         for name, text in {**files, "s": ""}.items():
             with open(os.path.join(folder, name), "w") as out:
                 out.write(text)
-        results = [run(folder) for _ in range(runs)]
+        results = [instructions(folder)] if EXACT else [run(folder) for _ in range(runs)]
         for _, answer in results:
             if answer != wanted:
                 raise SystemExit(f"{answer} in place of {wanted}")
-        return min(seconds for seconds, _ in results) * 1000
+        return min(cost for cost, _ in results) * (1 if EXACT else 1000)
 
 
 def hidden(files):
     return {**files, "root.jsx": files["root.jsx"].replace("export const App", "const App")}
 
 
+EXACT = "--instructions" in sys.argv
+UNIT = "million instructions" if EXACT else "ms"
 start = best({}, "refused RootMissing root -")
-print(f"start of the process: {start:.2f} ms")
-print("| modules | KiB | reading and parsing, ms | all rules, ms | rules / parsing | growth of parsing | growth of rules |")
+print(f"start of the process: {start:.2f} {UNIT}")
+print(f"| modules | KiB | reading and parsing, {UNIT} | all rules, {UNIT} | rules / parsing | growth of parsing | growth of rules |")
 print("|---|---|---|---|---|---|---|")
 for rows in ([one_module(kib * 1024) for kib in (64, 256, 1024)], [many_modules(count) for count in (16, 64, 256)]):
     before = None
