@@ -30,7 +30,7 @@ abbrev pub ApplicationsAgree : Type 0
 ApplicationsAgree =
     (files : Files) (a : Application) → AcceptsOver files (Ok a) → (pairing : Pairing) → One_to_one pairing → (b : Start) →
     Readings_agree (ties_of a pairing) b called_anew (program_of (modules_of a)) (captured_program_of (modules_of a))
-    × Shown_as (ties_of a pairing) (program_of (modules_of a)).app (captured_program_of (modules_of a)).app
+    × Shown_as (ties_of a pairing).sites (program_of (modules_of a)).app (captured_program_of (modules_of a)).app
 
 -- every script shows the same, at the same limits
 abbrev pub ApplicationScriptsAgree : Type 0

@@ -28,7 +28,7 @@ put_nothing None = refl
 put_nothing (Some put) = ap Some (sym (append-nil put))
 
 -- the number behind these events
-number_behind : Counter → ℤ → List Event → ℤ
+pub number_behind : Counter → ℤ → List Event → ℤ
 number_behind c n [] = n
 number_behind c n (e ∷ more) = number_behind c (number_after c n e) more
 
@@ -48,7 +48,7 @@ number_more c n (x ∷ rest) e = number_more c (number_after c n x) rest e
 events_more : (c : Counter) (k : ℕ) (n : ℤ) (events : List Event) (e : Event)
     → events_text c k n (events ++ e ∷ []) ≡ events_text c k n events ++ event_text c (length events + k) (number_behind c n events) e
 unfolding events_text number_behind
-events_more c k n [] e = append-nil (event_text c k n e)
+events_more c k n [] e = let none : k ≡ 0 + k = omega arith in append-nil (event_text c k n e) ∙ ap (λ j. event_text c j n e) none
 events_more c k n (x ∷ rest) e =
     let further : length rest + suc k ≡ suc (length rest + k) = omega arith in
     ap (λ t. event_text c k n x ++ t) (events_more c (suc k) (number_after c n x) rest e
