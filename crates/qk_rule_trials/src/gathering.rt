@@ -281,12 +281,20 @@ fn many(alloc: Global, count: u8, last: &str) -> Result<Files, AllocError> {
     Ok(files)
 }
 
+/// How many modules were gathered.
+fn count(answer: &Result<Modules, GatherFault>) -> usize {
+    match answer {
+        Ok(modules) => modules.list.len(),
+        Err(_) => 0,
+    }
+}
+
 #[test]
 fn takes_256_modules(rt: HostRuntime) -> Result<(), Fail> {
     let alloc = rt.alloc();
     let mut store = MemStore::new(alloc, many(alloc, 254, "./last.jsx")?, Vec::new(alloc));
     let answer = gather(alloc, &mut store);
-    assert!(rt; matches!(answer, Ok(modules) if modules.list.len() == 256));
+    assert_eq!(rt; count(&answer), 256);
     for (last, expected) in [
         ("./last.jsx", "TooMany"),
         ("./gone.jsx", "ImportMissing root ./gone.jsx"),
