@@ -31,6 +31,7 @@ pub record Refused (before after : Counts) (why : CodeFault) : Type 0 where
 pub record Failed (before after : Counts) : Type 0 where
   pub rose : Rose before.faults after.faults
   pub refusals : after.refusals ≡ before.refusals
+  pub last : after.last ≡ before.last
 
 -- why a code gives nothing; want of memory raises no count
 abbrev pub Because : Counts → Counts → CodeFault → Type 0

@@ -40,11 +40,13 @@ pub enum HookAnswer {
 pub trait Host: Watch {
     /// A console line.
     fn line(&mut self, text: Text) -> Result<(), WatchFault>
-        ensures told { OnOk result (Hears Self.stands_for self.old (Besides (Did_print text) ∷ []) self.new) };
+        ensures told { OnOk result (Hears Self.stands_for self.old (Besides (Did_print text) ∷ []) self.new) }
+        ensures untold { OnErr result (Hears Self.stands_for self.old [] self.new) };
 
     /// A part of an execution begins.
     fn enter(&mut self, part: Part) -> Result<(), WatchFault>
-        ensures told { OnOk result (Hears Self.stands_for self.old (Besides (Began (part_seen part)) ∷ []) self.new) };
+        ensures told { OnOk result (Hears Self.stands_for self.old (Besides (Began (part_seen part)) ∷ []) self.new) }
+        ensures untold { OnErr result (Hears Self.stands_for self.old [] self.new) };
 
     /// A part that began is left, as its function has given a value.
     fn leave(&mut self, part: Part)
@@ -63,13 +65,16 @@ pub trait Host: Watch {
     /// The value that is kept of a computed, which then isn't called. So far none is.
     fn kept(&mut self, a: Addr) -> Result<Option<Value>, WatchFault>
         ensures none { IfOk result (λ v. v ≡ None) }
-        ensures told { OnOk result (Hears Self.stands_for self.old [] self.new) };
+        ensures told { OnOk result (Hears Self.stands_for self.old [] self.new) }
+        ensures untold { OnErr result (Hears Self.stands_for self.old [] self.new) };
 
     /// The function of a computed is about to be called.
     fn began(&mut self, a: Addr) -> Result<(), WatchFault>
-        ensures told { OnOk result (Hears Self.stands_for self.old (Besides (Computing a.0) ∷ []) self.new) };
+        ensures told { OnOk result (Hears Self.stands_for self.old (Besides (Computing a.0) ∷ []) self.new) }
+        ensures untold { OnErr result (Hears Self.stands_for self.old [] self.new) };
 
     /// The function of a computed has given this value.
     fn finished(&mut self, a: Addr, v: &Value) -> Result<(), WatchFault>
-        ensures told { OnOk result ((names : Site → List texts.Text) → Hears Self.stands_for self.old (Besides (Computed_so a.0 (seen names v.now)) ∷ []) self.new) };
+        ensures told { OnOk result ((names : Site → List texts.Text) → Hears Self.stands_for self.old (Besides (Computed_so a.0 (seen names v.now)) ∷ []) self.new) }
+        ensures untold { OnErr result (Hears Self.stands_for self.old [] self.new) };
 }
