@@ -50,7 +50,7 @@ events_more : (c : Counter) (k : ℕ) (n : ℤ) (events : List Event) (e : Event
 unfolding events_text number_behind
 events_more c k n [] e = let none : k ≡ 0 + k = omega arith in append-nil (event_text c k n e) ∙ ap (λ j. event_text c j n e) none
 events_more c k n (x ∷ rest) e =
-    let further : length rest + suc k ≡ suc (length rest + k) = omega arith in
+    let further : length rest + suc k ≡ suc (length rest) + k = omega arith in
     ap (λ t. event_text c k n x ++ t) (events_more c (suc k) (number_after c n x) rest e
     ∙ ap (λ j. events_text c (suc k) (number_after c n x) rest ++ event_text c j (number_behind c (number_after c n x) rest) e) further)
     ∙ sym (append_assoc (event_text c k n x) _ _)
@@ -108,7 +108,7 @@ played_more c events index n event before between now played below e put = rw (a
 })
 
 pub played_all : (c : Counter) (events : List Event) (index : ℕ) (n : ℤ) (before now : Option (List ℕ)) → IsPlayed c events index n before now → length events ≤ index → now ≡ option_map (with_piece (played_text c events)) before
-played_all c events index n before now played past = played.put ∙ ap (λ es. option_map (with_piece (played_text c es)) before) (take_all events index past)
+played_all c events index n before now played past = played.put ∙ ap (λ es. option_map (with_piece (played_text c es)) before) (take_all index events past)
 
 -- ---- where the sink stops
 
