@@ -252,7 +252,7 @@ module _ (form : Form) (hooked : Bool) (given : Program → Type 0) where
 
   -- more is given than was asked for, of whatever files come later
   pub ran_known : {A B : Type 0} (asked : Program → Type 0) (seen : Program → A → B) (m : Program → Doing Running B) (w v : World) (r : Result A Stop)
-      → ((files : Sources) → Extends w.sources files → given (reading form files) → asked (reading form files)) → Ran form hooked asked seen m w r v → Ran form hooked given seen m w r v
+      → ((files : Sources) → Extends v.sources files → given (reading form files) → asked (reading form files)) → Ran form hooked asked seen m w r v → Ran form hooked given seen m w r v
   ran_known asked seen m w v r k h =
       record {
         grows = h.grows;
@@ -263,7 +263,7 @@ module _ (form : Form) (hooked : Bool) (given : Program → Type 0) where
         unanswered = h.unanswered;
         heard = h.heard;
         asked = h.asked;
-        agrees = λ files more g past. h.agrees files more (k files (extends_all _ _ _ h.grows more) g) past;
+        agrees = λ files more g past. h.agrees files more (k files more g) past;
       }
 
   -- ---- single steps
