@@ -24,6 +24,8 @@ pub fn fault(answer: &Result<Value, OpStop>) -> Option<Fault> {
 }
 
 #[cfg(test)]
+mod names;
+#[cfg(test)]
 mod objects;
 #[cfg(test)]
 mod tests;

@@ -1,0 +1,33 @@
+-- The names in scope, as the meaning has them.
+use Rattle.std.specs.Prelude.{List, [], ◌∷◌, ◌++◌}
+use Rattle.qk_ast.specs.declared.Pattern.{Pattern}
+use Rattle.qk_ast.specs.declared.Stmt.{Stmt}
+use Rattle.qk_ast.specs.Names.{declared_by}
+use Rattle.qk_ast.specs.Texts.{Text}
+use Rattle.qk_meaning.specs.Value.{Site, Fields, end, field}
+use Rattle.qk_value.specs.View.{seen}
+use Rattle.qk_environment.specs.declared.scope.Named.{Named}
+
+-- what the arrow of each site captures
+abbrev pub Captures : Type 0
+Captures = Site → List Text
+
+module _ (captured : Captures) where
+  -- the names, the innermost last, over those around them
+  abbrev pub over : List Named → Fields → Fields
+  over [] around = around
+  over (n ∷ rest) around = over rest (field n.name (seen captured n.value) around)
+
+  abbrev pub scope_seen : List Named → Fields
+  scope_seen names = over names end
+
+-- the names that a `const` declares; those of `useLexicalScope` stand around the arrow's own names
+abbrev pub constant_names : Pattern → List Text
+constant_names (Pattern.Scope names) = []
+constant_names (Pattern.Name t) = t ∷ []
+constant_names (Pattern.Fields ts) = ts
+
+-- the names that statements declare
+abbrev pub declared_of : List Stmt → List Text
+declared_of [] = []
+declared_of (statement ∷ rest) = declared_by statement ++ declared_of rest
