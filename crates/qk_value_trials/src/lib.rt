@@ -1,28 +1,10 @@
 //! Trials of values, operators and objects, apart from them so that they are proved once.
 #![tactic(auto)]
 
+#[cfg(test)]
+mod answers;
+#[cfg(test)]
 mod heard;
-
-pub use heard::Heard;
-use qk_ops::OpStop;
-use qk_value::{Fault, Value, same};
-
-/// Whether a call gave this value.
-pub fn gives(answer: &Result<Value, OpStop>, value: &Value) -> bool {
-    match answer {
-        Ok(v) => same(v, value),
-        Err(_) => false,
-    }
-}
-
-/// The fault that a call answered.
-pub fn fault(answer: &Result<Value, OpStop>) -> Option<Fault> {
-    match answer {
-        Err(OpStop::Fault(f)) => Some(*f),
-        _ => None,
-    }
-}
-
 #[cfg(test)]
 mod names;
 #[cfg(test)]

@@ -1,9 +1,9 @@
 //! The names in scope, and how many statements and bodies open.
 
-use super::*;
 use qk_ast::{Body, Expr, Stmt};
 use qk_environment::Scope;
 use qk_shared::{List, Text};
+use qk_value::{Value, same};
 use std::alloc::{AllocError, Global};
 use std::test::Fail;
 

@@ -1,8 +1,9 @@
 //! The rules of objects, each at one change of one object. What is counted is what the watch was told.
 
-use super::*;
+use crate::heard::Heard;
 use qk_heap::{Fields, Heap, HeapStop, Items, Object};
 use qk_shared::Text;
+use qk_value::{Fault, Value};
 use std::alloc::{AllocError, Global};
 use std::test::Fail;
 

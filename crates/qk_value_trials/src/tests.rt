@@ -1,10 +1,10 @@
 //! The rules of values, operators and objects, by tables of cases. Each trial makes few values, so that it is proved fast.
 
-use super::*;
+use crate::answers::{fault, gives};
 use qk_ast::Bin;
 use qk_ops::{binary, text_call, trunc, utf16_length};
 use qk_shared::{List, Text};
-use qk_value::{array_index, depth, is_forbidden, put_field, weight};
+use qk_value::{Fault, Value, array_index, depth, is_forbidden, put_field, weight};
 use std::alloc::{AllocError, Global};
 use std::test::Fail;
 
