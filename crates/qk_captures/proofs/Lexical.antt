@@ -8,7 +8,7 @@ use Rattle.qk_ast.specs.declared.Pattern.{Pattern}
 use Rattle.qk_ast.specs.declared.Stmt.{Stmt, Block' as Statement_block'}
 use Rattle.qk_ast.specs.declared.Body.TheVariants as b
 use Rattle.qk_ast.specs.Names.{row_scope_names, scope_names}
-use Rattle.qk_captures.specs.Capturing.{names_around}
+use Rattle.qk_ast.specs.Arrows.{names_around}
 use Rattle.qk_captures.specs.Scoping.{first_names}
 
 pub around_arrow : (a : Arrow) → names_around (e.Arrow a) ≡ scope_names a.body

@@ -14,7 +14,8 @@ use Rattle.qk_node.specs.Growing.{tree}
 use Rattle.qk_node.proofs.Same_arrows.{same_arrows}
 use Rattle.qk_captures.specs.declared.walk.Walk.{Walk}
 use Rattle.qk_captures.specs.Scoping.{in_scope}
-use Rattle.qk_captures.specs.Capturing.{names_around, built_arrows, arrows_of, captured_after, captured_in}
+use Rattle.qk_ast.specs.Arrows.{names_around, built_arrows}
+use Rattle.qk_captures.specs.Capturing.{arrows_of, captured_after, captured_in}
 use Rattle.qk_captures.specs.Walking.{note_of, noted, all_noted, one_more, count_of, captured, behind, items_found}
 use Rattle.qk_captures.proofs.Scopes.{same_alone}
 use Rattle.qk_captures.proofs.Alike.{notes, joined, alike}

@@ -1,26 +1,14 @@
 -- The arrows of a module or built file as sites, each with the names that it captures.
 use Rattle.std.specs.Prelude.{suc, List, [], ◌∷◌, ◌++◌, length}
-use Rattle.qk_ast.specs.declared.Expr.{Expr, more_of-Arrow}
 use Rattle.qk_ast.specs.declared.Form.{Form}
 use Rattle.qk_ast.specs.declared.Form.TheVariants.{Source, Built}
-use Rattle.qk_ast.specs.declared.Item.{Item}
 use Rattle.qk_ast.specs.declared.Module.{Module}
 use Rattle.qk_ast.specs.Texts.{Text}
-use Rattle.qk_ast.specs.Names.{scope_names}
-use Rattle.qk_ast.specs.Arrows.{Unmarked, Found_arrow, arrows, item_arrows, is_dollar, of_kind}
+use Rattle.qk_ast.specs.Arrows.{Found_arrow, item_arrows, built_arrows, is_dollar, of_kind}
 use Rattle.qk_ast.specs.Uses.{captures_of}
 use Rattle.qk_captures.specs.declared.Captured.{Captured}
 
 -- ---- the arrows of a file, in text order, each with the names declared around it
-
--- the names around the arrow of a built file's item: those of the `useLexicalScope` with which its body begins
-abbrev pub names_around : Expr → List Text
-names_around (Expr.Arrow' _ (more_of-Arrow place params body _)) = scope_names body
-names_around _ = []
-
-abbrev pub built_arrows : List Item → List Found_arrow
-built_arrows [] = []
-built_arrows (i ∷ rest) = arrows i.init Unmarked (names_around i.init) ++ built_arrows rest
 
 abbrev pub arrows_of : Form → Module → List Found_arrow
 arrows_of Source m = item_arrows m.items

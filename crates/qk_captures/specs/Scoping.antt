@@ -12,7 +12,7 @@ use Rattle.qk_ast.specs.Walking.{with_name}
 use Rattle.qk_node.specs.Nodes.{Node, Value, Block, For_block}
 use Rattle.qk_captures.specs.declared.scope.Scope.{Scope}
 use Rattle.qk_captures.specs.declared.scope.Outside.{Outside}
-use Rattle.qk_captures.specs.Capturing.{names_around}
+use Rattle.qk_ast.specs.Arrows.{names_around}
 
 -- whether an arrow with this mark is a dollar arrow
 abbrev pub is_dollar_mark : arrows.Mark → Bool

@@ -4,7 +4,7 @@ ghost use Rattle.std.specs.Prelude.{◌≡◌, [], ◌∷◌, ◌++◌, OnOk, If
 ghost use Rattle.qk_ast.specs.Names.{is_listed, those_of, pattern_names, patterns_names, declared_by, body_names, scope_names};
 ghost use Rattle.qk_locals.specs.Meanings.{mark_of};
 ghost use Rattle.qk_node.specs.Borrowed.{node_of};
-ghost use Rattle.qk_captures.specs.Capturing.{names_around};
+ghost use Rattle.qk_ast.specs.Arrows.{names_around};
 ghost use Rattle.qk_captures.specs.Scoping.{in_scope, with_one, with_all, inside_arrow, block_names, entered, first_names, names_before, outside_of, back_to};
 
 use qk_ast::{Arrow, Body, Expr, Form, NameSet, Pattern, Stmt};

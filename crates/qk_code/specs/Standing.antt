@@ -1,11 +1,13 @@
 -- What it is that what a code gave stands for a piece of code, or for what a root's name means.
-use Rattle.std.specs.Prelude.{◌≡◌, ◌<◌, ◌≤◌, ℕ, Bool, true, false, List, [], length, Some, slice_get}
+use Rattle.std.specs.Prelude.{◌≡◌, ◌<◌, ◌≤◌, ℕ, Bool, true, false, List, [], ◌∷◌, length, Option, Some, None, slice_get, get_or}
 use Rattle.qk_ast.specs.declared.Form.{Form}
 use Rattle.qk_ast.specs.declared.Form.TheVariants.{Source, Built}
 use Rattle.qk_ast.specs.declared.Imported.{Imported}
+use Rattle.qk_ast.specs.declared.Origin.{Origin}
 use Rattle.qk_ast.specs.declared.Origin.TheVariants.{Qwik}
+use Rattle.qk_ast.specs.Texts.{same_text}
 use Rattle.qk_ast.specs.declared.Site.{Site}
-use Rattle.qk_ast.specs.Arrows.{Found_arrow, item_arrows, of_kind}
+use Rattle.qk_ast.specs.Arrows.{Found_arrow, item_arrows, built_arrows, of_kind}
 use Rattle.qk_ast.specs.Sources.{module_of}
 use Rattle.qk_captures.specs.declared.Captured.{Captured}
 use Rattle.qk_meaning.specs.Value as M
@@ -13,7 +15,6 @@ use Rattle.qk_meaning.specs.Value.{Text, Fields}
 use Rattle.qk_meaning.specs.Parts.{packed, picked, zipped}
 use Rattle.qk_meaning.specs.Program.{Program, Code, Framework, Holds, Shows, symbol_of, captures_in}
 use Rattle.qk_meaning.specs.Index.{For_component}
-use Rattle.qk_meaning.specs.Readings.{built_arrows}
 use Rattle.qk_value.specs.View.{seen, is_distinct}
 use Rattle.qk_code.specs.declared.func.Func.{Func}
 use Rattle.qk_code.specs.declared.func.Root.{Root}
@@ -33,14 +34,28 @@ abbrev pub keeping : (dollar : Bool) → M.Site → List Text → Fields → M.V
 keeping true site names scope = M.Lifted (symbol_of site) (packed (picked names scope)) false
 keeping false site names scope = M.Closure site (zipped names (picked names scope)) false
 
+-- what is known of the arrow at a place of the function's file
+abbrev pub known_at : Func → ℕ → Captured
+known_at f place = get_or f.names.captures place f.elsewhere
+
+-- the name of the framework that a name is by an import table, where it is one
+abbrev pub framework_by : Origin → Option Text
+framework_by (Qwik other) = Some other
+framework_by _ = None
+
+abbrev pub framework_in : List Imported → Text → Option Text
+framework_in [] name = None
+framework_in (e ∷ rest) name = elim (same_text e.name name) [ true ↦ framework_by e.origin | false ↦ framework_in rest name ]
+
 -- what is known of a program where a function's file says what each of its arrows is, by its place, and from where each name is imported
 pub record Knows (p : Program) (f : Func) : Type 0 where
-  pub site : (place : ℕ) (c : Captured) → slice_get f.names.captures place ≡ Some c → p.site f.file place ≡ site_seen c.site
-  pub file : (place : ℕ) (c : Captured) → slice_get f.names.captures place ≡ Some c → c.site.«module» ≡ f.file
-  pub captures : (place : ℕ) (c : Captured) → slice_get f.names.captures place ≡ Some c → captures_in p (site_seen c.site) ≡ c.names
-  pub distinct : (place : ℕ) (c : Captured) → slice_get f.names.captures place ≡ Some c → is_distinct c.names ≡ true
-  pub makes : (place : ℕ) (c : Captured) → slice_get f.names.captures place ≡ Some c → (scope : Fields) → p.makes (site_seen c.site) scope ≡ keeping c.site.dollar (site_seen c.site) c.names scope
-  pub framework : (i : ℕ) (e : Imported) (name : Text) → slice_get f.imports.entries i ≡ Some e → e.origin ≡ Qwik name → p.root f.file e.name ≡ Framework name
+  pub site : (place : ℕ) → p.site f.file place ≡ site_seen (known_at f place).site
+  pub file : (place : ℕ) → (known_at f place).site.«module» ≡ f.file
+  pub captures : (place : ℕ) → captures_in p (site_seen (known_at f place).site) ≡ (known_at f place).names
+  pub distinct : (place : ℕ) → is_distinct (known_at f place).names ≡ true
+  pub makes : (place : ℕ) (scope : Fields) → p.makes (site_seen (known_at f place).site) scope ≡ keeping (known_at f place).site.dollar (site_seen (known_at f place).site) (known_at f place).names scope
+  pub framework : (name other : Text) → framework_in f.imports.entries name ≡ Some other → p.root f.file name ≡ Framework other
+  pub others : (name other : Text) → framework_in f.imports.entries name ≡ None → p.root f.file name ≡ Framework other → ⊥
 
 -- this code is the function's
 pub record Stands (p : Program) (code : Code) (f : Func) : Type 0 where

@@ -3,6 +3,7 @@
 ghost use Rattle.qk_code.specs.Shallow.{IsShallow};
 
 use qk_ast::{Arrow, ImportTable};
+use qk_captures::Captured;
 use qk_scope::Names;
 use qk_shared::{List, Shared, Text};
 use qk_value::Value;
@@ -17,6 +18,8 @@ pub struct Func {
     pub arrow: Shared<Arrow>,
     /// The site and the captures of each arrow of the file, by its place.
     pub names: Shared<Names>,
+    /// What stands for an arrow at a place that the file doesn't have; no arrow of the file has one.
+    pub elsewhere: Shared<Captured>,
     /// The imported names of the file.
     pub imports: Shared<ImportTable>,
     /// Whether it is a task's arrow; its pattern `{ track }` then binds `track` and reads no argument.

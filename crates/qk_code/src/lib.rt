@@ -4,6 +4,7 @@
 mod code;
 mod func;
 mod host;
+mod known;
 mod mode;
 mod stop;
 

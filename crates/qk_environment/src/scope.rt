@@ -95,7 +95,7 @@ impl Scope {
     }
 
     /// One name more, in front of the others.
-    fn push(&mut self, name: &Text, value: Value) -> Result<(), AllocError>
+    pub fn push(&mut self, name: &Text, value: Value) -> Result<(), AllocError>
         ensures shown { OnOk result ((captured : Captures) → scope_seen captured self.new.names.items ≡ M.field name.now (seen captured value) (scope_seen captured self.old.names.items)) }
         ensures longer { OnOk result (length self.new.names.items ≡ length self.old.names.items + 1) }
     {

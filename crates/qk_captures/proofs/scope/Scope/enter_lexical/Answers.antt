@@ -1,5 +1,5 @@
 use Rattle.std.proofs.Common.{rules, ap, ◌∙◌}
-use Rattle.qk_captures.specs.Capturing.{names_around}
+use Rattle.qk_ast.specs.Arrows.{names_around}
 use Rattle.qk_captures.specs.Scoping.{with_all}
 use Rattle.qk_captures.proofs.Lexical.{around_arrow}
 use Rattle.qk_captures.proofs.scope.Scope.enter_lexical.Goals as goal
