@@ -8,7 +8,8 @@ use Rattle.qk_ast.specs.declared.Stmt.{Stmt}
 use denote.Hole.Carrier.{hidden}
 use Rattle.qk_ast.specs.declared.Body.TheBlock.{hidden-the_row-Stmt-1}
 use Rattle.qk_ast.specs.declared.Body.TheVariants as b
-use Rattle.qk_ast.specs.Names.{declared_by, declared_in, body_names}
+use Rattle.qk_ast.specs.declared.Pattern.{Pattern}
+use Rattle.qk_ast.specs.Names.{declared_by, declared_in, body_names, pattern_names, patterns_names}
 use Rattle.qk_meaning.specs.Flow.{opened}
 use Rattle.qk_meaning.specs.Value.{Fields, Undefined, end, field, Value}
 use Rattle.qk_meaning.specs.Parts.{value_at, or_undefined, found, has_field, replaced, without_first, zipped}
@@ -115,12 +116,37 @@ opened_both : (one other : List (List ℕ)) (f : Fields) → opened (one ++ othe
 opened_both [] other f = refl
 opened_both (n ∷ rest) other f = opened_both rest other (field n Undefined f)
 
-pub opened_next : (statements : List Stmt) (i : ℕ) (x : Stmt) (before behind : Fields) → i < length statements → x ≡ get_or statements i x → behind ≡ opened (declared_by x) before
-    → opened (declared_of (drop (i + 1) statements)) behind ≡ opened (declared_of (drop i statements)) before
-opened_next statements i x before behind lt is next =
-    ap (opened (declared_of (drop (i + 1) statements))) next
-    ∙ sym (opened_both (declared_by x) (declared_of (drop (i + 1) statements)) before)
-    ∙ ap {A = List Stmt} (λ xs. opened (declared_of xs) before) (sym (drop-cons statements i x lt ∙ (ap (λ y. y ∷ drop (suc i) statements) (sym is) ∙ ap (λ k. x ∷ drop k statements) (sym (add-one i)))))
+-- the names of an item are opened, then those of the items behind it
+opened_then : (one other both : List (List ℕ)) (before behind : Fields) → both ≡ one ++ other → behind ≡ opened one before → opened other behind ≡ opened both before
+opened_then one other both before behind together next = ap (opened other) next ∙ (sym (opened_both one other before) ∙ ap {A = List (List ℕ)} (λ names. opened names before) (sym together))
+
+longer_then : (one other both : List (List ℕ)) (now next all : ℕ) → both ≡ one ++ other → next ≡ now + length one → now + length both ≡ all → next + length other ≡ all
+longer_then one other both now next all together e h =
+    let l : length both ≡ length one + length other = ap {A = List (List ℕ)} (λ names. length names) together ∙ length-append one other in
+    omega (arith, e, h, l)
+
+item_first : {A : Type 0} (items : List A) (i : ℕ) (x : A) → i < length items → x ≡ get_or items i x → drop i items ≡ x ∷ drop (i + 1) items
+item_first items i x lt is = drop-cons items i x lt ∙ (ap (λ y. y ∷ drop (suc i) items) (sym is) ∙ ap (λ k. x ∷ drop k items) (sym (add-one i)))
+
+module _ (statements : List Stmt) (i : ℕ) (x : Stmt) (lt : i < length statements) (is : x ≡ get_or statements i x) where
+  statement_first : declared_of (drop i statements) ≡ declared_by x ++ declared_of (drop (i + 1) statements)
+  statement_first = ap {A = List Stmt} declared_of (item_first statements i x lt is)
+
+  pub opened_next : (before behind : Fields) → behind ≡ opened (declared_by x) before → opened (declared_of (drop (i + 1) statements)) behind ≡ opened (declared_of (drop i statements)) before
+  opened_next before behind next = opened_then (declared_by x) _ _ before behind statement_first next
+
+  pub opened_longer : (now next all : ℕ) → next ≡ now + length (declared_by x) → now + length (declared_of (drop i statements)) ≡ all → next + length (declared_of (drop (i + 1) statements)) ≡ all
+  opened_longer now next all e h = longer_then (declared_by x) _ _ now next all statement_first e h
+
+module _ (params : List Pattern) (i : ℕ) (x : Pattern) (lt : i < length params) (is : x ≡ get_or params i x) where
+  parameter_first : patterns_names (drop i params) ≡ pattern_names x ++ patterns_names (drop (i + 1) params)
+  parameter_first = ap {A = List Pattern} patterns_names (item_first params i x lt is)
+
+  pub parameter_next : (before behind : Fields) → behind ≡ opened (pattern_names x) before → opened (patterns_names (drop (i + 1) params)) behind ≡ opened (patterns_names (drop i params)) before
+  parameter_next before behind next = opened_then (pattern_names x) _ _ before behind parameter_first next
+
+  pub parameter_longer : (now next all : ℕ) → next ≡ now + length (pattern_names x) → now + length (patterns_names (drop i params)) ≡ all → next + length (patterns_names (drop (i + 1) params)) ≡ all
+  parameter_longer now next all e h = longer_then (pattern_names x) _ _ now next all parameter_first e h
 
 -- ---- names with values
 
@@ -158,13 +184,6 @@ closed_from p names (suc n) (suc i) le =
 
 pub closed_names : (p : Captures) (names : List Named) (n : ℕ) → scope_seen p (take (length names - n) names) ≡ without_first n (scope_seen p names)
 closed_names p names n = closed_from p names n (length names) (omega arith) ∙ ap (λ all. without_first n (over p all end)) (take_all (length names) names (omega arith))
-
-pub opened_longer : (statements : List Stmt) (i : ℕ) (x : Stmt) (now next all : ℕ) → i < length statements → x ≡ get_or statements i x → next ≡ now + length (declared_by x)
-    → now + length (declared_of (drop i statements)) ≡ all → next + length (declared_of (drop (i + 1) statements)) ≡ all
-opened_longer statements i x now next all lt is e h =
-    let d : drop i statements ≡ x ∷ drop (i + 1) statements = drop-cons statements i x lt ∙ (ap (λ y. y ∷ drop (suc i) statements) (sym is) ∙ ap (λ k. x ∷ drop k statements) (sym (add-one i))) in
-    let l : length (declared_of (drop i statements)) ≡ length (declared_by x) + length (declared_of (drop (i + 1) statements)) = ap {A = List Stmt} (λ xs. length (declared_of xs)) d ∙ length-append (declared_by x) (declared_of (drop (i + 1) statements)) in
-    omega (arith, e, h, l)
 
 -- ---- the names of a block as a row
 

@@ -1,10 +1,10 @@
 -- The names in scope, as the meaning has them.
-use Rattle.std.specs.Prelude.{List, [], ◌∷◌, ◌++◌}
+use Rattle.std.specs.Prelude.{true, false, List, [], ◌∷◌, ◌++◌, codes}
 use Rattle.qk_ast.specs.declared.Pattern.{Pattern}
 use Rattle.qk_ast.specs.declared.Stmt.{Stmt}
 use Rattle.qk_ast.specs.Names.{declared_by}
-use Rattle.qk_ast.specs.Texts.{Text}
-use Rattle.qk_meaning.specs.Value.{Site, Fields, end, field}
+use Rattle.qk_ast.specs.Texts.{Text, same_text}
+use Rattle.qk_meaning.specs.Value.{Value, Site, Fields, end, field}
 use Rattle.qk_value.specs.View.{seen}
 use Rattle.qk_environment.specs.declared.scope.Named.{Named}
 
@@ -20,6 +20,10 @@ module _ (captured : Captures) where
 
   abbrev pub scope_seen : List Named → Fields
   scope_seen names = over names end
+
+-- the name with its value in front of the others, unless it is `track`
+abbrev pub untracked : Text → Value → Fields → Fields
+untracked name v around = elim (same_text name (codes "track")) [ true ↦ around | false ↦ field name v around ]
 
 -- the names that a `const` declares; those of `useLexicalScope` stand around the arrow's own names
 abbrev pub constant_names : Pattern → List Text

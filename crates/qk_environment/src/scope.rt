@@ -2,16 +2,20 @@
 
 ghost use Rattle.std.specs.Prelude.{◌≡◌, ◌+◌, IfOk, OnOk, [], length, map};
 ghost use Rattle.qk_meaning.specs.Value as M;
+ghost use Rattle.qk_meaning.specs.Evaluation.{without_track};
 ghost use Rattle.qk_meaning.specs.Flow.{opened};
 ghost use Rattle.qk_meaning.specs.Parts.{value_at, has_field, replaced, without_first, zipped};
 ghost use Rattle.qk_value.specs.View.{seen};
-ghost use Rattle.qk_environment.specs.Scoping.{Captures, scope_seen, declared_of, constant_names};
-ghost use Rattle.qk_ast.specs.Names.{body_names, declared_by};
+ghost use Rattle.qk_environment.specs.Scoping.{Captures, scope_seen, untracked, declared_of, constant_names};
+ghost use Rattle.qk_ast.specs.Names.{body_names, declared_by, pattern_names, patterns_names};
 
 use qk_ast::{Body, Pattern, Stmt};
 use qk_shared::Text;
 use qk_value::Value;
 use std::alloc::{AllocError, Global};
+
+/// The parameter of a task that means the tracker.
+const TRACK: &str = "track";
 
 /// A name and its value.
 #[derive(Drop)]
@@ -46,6 +50,23 @@ impl Scope {
             i -= 1;
             let value = values[i].share()?;
             scope.push(&names[i], value)?;
+        }
+        Ok(scope)
+    }
+
+    /// As `filled`, for the body of a task with the parameter `track`: a name `track` is left out, since it means the tracker there.
+    pub fn filled_for_task(
+        alloc: Global,
+        names: &[Text],
+        values: &[Value],
+    ) -> Result<Scope, AllocError>
+        ensures { IfOk result (λ s. (captured : Captures) → scope_seen captured s.names.items ≡ without_track (zipped names.now (map (seen captured) values.now))) }
+    {
+        let mut scope = Scope::new(alloc);
+        let mut i = names.len().min(values.len());
+        while i > 0 {
+            i -= 1;
+            scope.push_untracked(&names[i], &values[i])?;
         }
         Ok(scope)
     }
@@ -104,6 +125,17 @@ impl Scope {
         Ok(())
     }
 
+    /// One name more, unless it is `track`.
+    fn push_untracked(&mut self, name: &Text, value: &Value) -> Result<(), AllocError>
+        ensures { OnOk result ((captured : Captures) → scope_seen captured self.new.names.items ≡ untracked name.now (seen captured value.now) (scope_seen captured self.old.names.items)) }
+    {
+        if name.as_str() == TRACK {
+            return Ok(());
+        }
+        let value = value.share()?;
+        self.push(name, value)
+    }
+
     /// So many of the innermost names are closed.
     pub fn close(&mut self, count: usize)
         ensures { (captured : Captures) → scope_seen captured self.new.names.items ≡ without_first count (scope_seen captured self.old.names.items) }
@@ -119,6 +151,17 @@ impl Scope {
     {
         for name in names {
             self.push(name, Value::Undefined)?;
+        }
+        Ok(())
+    }
+
+    /// The names of an arrow's parameters, in front of the others, without a value yet.
+    pub fn open_parameters(&mut self, params: &[Pattern]) -> Result<(), AllocError>
+        ensures shown { OnOk result ((captured : Captures) → scope_seen captured self.new.names.items ≡ opened (patterns_names params.now) (scope_seen captured self.old.names.items)) }
+        ensures longer { OnOk result (length self.new.names.items ≡ length self.old.names.items + length (patterns_names params.now)) }
+    {
+        for pattern in params {
+            self.open_parameter(pattern)?;
         }
         Ok(())
     }
@@ -183,6 +226,18 @@ impl Scope {
             Pattern::Name(name) => self.push(name, Value::Undefined),
             Pattern::Fields(names) => self.open(names.as_slice()),
             Pattern::Scope(_) => Ok(()),
+        }
+    }
+
+    /// All names of a parameter.
+    fn open_parameter(&mut self, pattern: &Pattern) -> Result<(), AllocError>
+        ensures shown { OnOk result ((captured : Captures) → scope_seen captured self.new.names.items ≡ opened (pattern_names pattern.now) (scope_seen captured self.old.names.items)) }
+        ensures longer { OnOk result (length self.new.names.items ≡ length self.old.names.items + length (pattern_names pattern.now)) }
+    {
+        match pattern {
+            Pattern::Name(name) => self.push(name, Value::Undefined),
+            Pattern::Fields(names) => self.open(names.as_slice()),
+            Pattern::Scope(names) => self.open(names.as_slice()),
         }
     }
 }
