@@ -1,5 +1,5 @@
 -- The files of some applications, computed.
-pub mod Trees
+pub mod Written
 pub mod Keeping
 mod Counter
 mod Nested_dollar_functions

@@ -5,7 +5,8 @@ use Rattle.qk_ast.specs.declared.Module.{Module}
 use Rattle.qk_ast.specs.Sources.{Named_module}
 use Rattle.qk_lifting.specs.Files.{built_files}
 use Rattle.qk_lifting.proofs.Rows.Keeping.{keeps}
-use Rattle.qk_lifting.proofs.Rows.Trees.{int, name, text, post, dot, call, step, gives, block, plain, arrow, element, const, give_back, importing, item, file}
+use Rattle.qk_meaning_rows.specs.Trees.{int, name, text, post, dot, call, step, gives, block, plain, arrow, element, const, give_back, importing, item}
+use Rattle.qk_lifting.proofs.Rows.Written.{file}
 
 abbrev root_module : Module
 root_module = record {

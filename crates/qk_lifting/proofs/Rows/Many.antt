@@ -8,7 +8,8 @@ use Rattle.qk_ast.specs.declared.AssignOp.{AssignOp}
 use Rattle.qk_ast.specs.Sources.{Named_module}
 use Rattle.qk_lifting.specs.Files.{built_files}
 use Rattle.qk_lifting.proofs.Rows.Keeping.{keeps}
-use Rattle.qk_lifting.proofs.Rows.Trees.{int, name, record_of, chain, post, dot, call, assign, gives, block, plain, fields, arrow, element, component, const, do_it, give_back, go_back, importing, item, file}
+use Rattle.qk_meaning_rows.specs.Trees.{int, name, record_of, chain, post, dot, call, assign, gives, block, plain, fields, arrow, element, component, const, do_it, give_back, go_back, importing, item}
+use Rattle.qk_lifting.proofs.Rows.Written.{file}
 
 abbrev root_module : Module
 root_module = record {

@@ -9,7 +9,8 @@ use Rattle.qk_ast.specs.declared.Known.{Known}
 use Rattle.qk_ast.specs.Sources.{Named_module}
 use Rattle.qk_lifting.specs.Files.{built_files}
 use Rattle.qk_lifting.proofs.Rows.Keeping.{keeps}
-use Rattle.qk_lifting.proofs.Rows.Trees.{int, name, text, chain, post, dot, call, assign, known, gives, block, plain, arrow, element, const, do_it, give_back, importing, item, file}
+use Rattle.qk_meaning_rows.specs.Trees.{int, name, text, chain, post, dot, call, assign, known, gives, block, plain, arrow, element, const, do_it, give_back, importing, item}
+use Rattle.qk_lifting.proofs.Rows.Written.{file}
 
 abbrev root_module : Module
 root_module = record {

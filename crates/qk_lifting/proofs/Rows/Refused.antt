@@ -10,7 +10,7 @@ use Rattle.qk_lifting.specs.declared.Entry.{Entry}
 use Rattle.qk_lifting.specs.declared.AppIndex.{AppIndex}
 use Rattle.qk_lifting.specs.Built_file.{Read_file}
 use Rattle.qk_lifting.proofs.Rows.Keeping.{is_built}
-use Rattle.qk_lifting.proofs.Rows.Trees.{int, name, text, list_of, chain, post, dot, call, step, gives, block, plain, scope, arrow, element, component, const, let_be, do_it, give_back, inner_block, importing, item}
+use Rattle.qk_meaning_rows.specs.Trees.{int, name, text, list_of, chain, post, dot, call, step, gives, block, plain, scope, arrow, element, component, const, let_be, do_it, give_back, inner_block, importing, item}
 
 abbrev entry : String → SegmentKind → ℕ → String → Entry
 entry symbol kind captures hooks = record { symbol = codes symbol; kind = kind; captures = captures; hooks = codes hooks }
