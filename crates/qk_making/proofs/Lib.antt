@@ -1,0 +1,10 @@
+pub mod Acting
+pub mod Making
+pub mod Items
+pub mod Capturing
+pub mod Walking
+pub mod Putting
+pub mod Trying
+pub mod Written_attributes
+pub mod Sequences
+pub mod Elements
