@@ -1,0 +1,11 @@
+pub mod Array_changes
+pub mod Changing
+pub mod Code_units
+pub mod Cut_items
+pub mod Deleting
+pub mod Joining
+pub mod Known_calls
+pub mod Looked
+pub mod Objects
+pub mod Taken
+pub mod Text_calls

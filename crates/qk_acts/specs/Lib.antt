@@ -1,0 +1,5 @@
+pub mod Keying
+pub mod Lists
+pub mod Looking
+pub mod Naming
+pub mod Ways
