@@ -385,6 +385,26 @@ module _ (form : Form) (hooked : Bool) (given : Program → Type 0) where
       by C.Store rs cause goes = rw rs (stopped C.Store cause.cause cause.later goes)
       by C.Memory rs cause goes = ran_memory seen _ w (record w { sources = sources; counts = counts; asked = asked }) r rs grows cause.cause (spent_self _)
 
+  fewer_turns : (s t : Running) (turns : ℕ) → Adds s t → Adds (record s { turns = turns }) t
+  fewer_turns s t turns a = record { told = a.told; trace = a.trace; log = a.log; lines = a.lines; made = a.made; kinds = a.kinds }
+
+  -- it has nothing to give, and nothing was asked for
+  pub ran_lacks : {A B X : Type 0} (seen : Program → A → B) (meaning : Program → Doing Running B) (w : World) (left : Left) (counts : Counts) (asked : List Ask → Type 0) (r : Result A Stop) (why : CodeFault)
+      → r ≡ Err (stop_by why) → Spent w.left left → CausedBy {A = X} w.counts counts (Err why) → Goes_on w.asked asked [] → ((p : Program) (s : Running) → Adds s (state_left (meaning p s)))
+      → Ran form hooked given seen meaning w r (record w { left = left; counts = counts; asked = asked })
+  ran_lacks {A} {B} {X} seen meaning w left counts asked r why rs spent cause goes adding = by why rs cause
+    where
+      stopped : (why : CodeFault) → HasCause {A = A} w.counts counts (Err (Code why)) → Later w.counts counts → Ran form hooked given seen meaning w (Err (Code why)) (record w { left = left; counts = counts; asked = asked })
+      stopped why because later =
+          ran_quiet seen meaning w (record w { left = left; counts = counts; asked = asked }) (Err (Code why)) (extends_self _) later because spent (goes_none _) goes
+          (λ files more g past. let p : Program = reading form files in fewer_turns (state hooked p past w) (state_left (meaning p (state hooked p past w))) left.turns (adding p (state hooked p past w)))
+
+      by : (why : CodeFault) → r ≡ Err (stop_by why) → CausedBy {A = X} w.counts counts (Err why) → Ran form hooked given seen meaning w r (record w { left = left; counts = counts; asked = asked })
+      by (C.Missing file) rs cause = rw rs (stopped (C.Missing file) cause.cause cause.later)
+      by (C.Bad file) rs cause = rw rs (stopped (C.Bad file) cause.cause cause.later)
+      by C.Store rs cause = rw rs (stopped C.Store cause.cause cause.later)
+      by C.Memory rs cause = ran_memory seen meaning w (record w { left = left; counts = counts; asked = asked }) r rs (extends_self _) cause.cause spent
+
   -- ---- the host is told
 
   -- these are told, and nothing of it is logged, printed, answered or asked for

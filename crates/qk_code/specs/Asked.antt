@@ -1,5 +1,5 @@
 -- What a code is asked for, and what of a trace that is.
-use Rattle.std.specs.Prelude.{ℕ, List, [], ◌∷◌, ◌++◌, Result, Err}
+use Rattle.std.specs.Prelude.{ℕ, List, [], ◌∷◌, ◌++◌, Result, Ok, Err}
 use Rattle.qk_meaning.specs.Value.{Text}
 use Rattle.qk_meaning.specs.Happening.{Happening, At_site, Of_symbol, Entered, Used}
 use Rattle.qk_code.specs.declared.stop.CodeFault.{CodeFault}
@@ -19,6 +19,11 @@ Goes_on {X} before after more = (list : List X) → before list → after (list 
 abbrev pub asks_answered : {A : Type 0} → Ask → Result A CodeFault → List Ask
 asks_answered ask (Err Memory) = []
 asks_answered ask _ = ask ∷ []
+
+-- a plain arrow stands in a file that the code has, and nothing is read for it: where it has none of that number, nothing was asked for
+abbrev pub asks_given : {A : Type 0} → Ask → Result A CodeFault → List Ask
+asks_given ask (Err why) = []
+asks_given ask (Ok a) = ask ∷ []
 
 -- what is asked for in a trace: the arrows that are entered and the names of roots that are used, in order
 abbrev pub asks_in : List Happening → List Ask

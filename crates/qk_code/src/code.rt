@@ -6,7 +6,7 @@ ghost use Rattle.qk_meaning.specs.Index.{is_for_task};
 ghost use Rattle.qk_value.specs.View.{plain_site};
 ghost use Rattle.qk_code.specs.Sources.{Sources, Extends};
 ghost use Rattle.qk_code.specs.Counts.{Counts, CausedBy};
-ghost use Rattle.qk_code.specs.Asked.{Ask, For_body, For_plain, For_root, Goes_on, asks_answered};
+ghost use Rattle.qk_code.specs.Asked.{Ask, For_body, For_plain, For_root, Goes_on, asks_answered, asks_given};
 ghost use Rattle.qk_code.specs.Standing.{StandsFor, MeansIn, HasKind, HasPlain, LacksPlain};
 
 use crate::func::{Func, Root};
@@ -48,7 +48,7 @@ pub trait Code {
     fn plain(&mut self, file: &Text, number: u32) -> Result<Shared<Func>, CodeFault>
         ensures kept { sources self.new ≡ sources self.old }
         ensures cause { CausedBy (counts self.old) (counts self.new) result }
-        ensures asks { Goes_on (asked self.old) (asked self.new) (asks_answered (For_plain file.now number) result) }
+        ensures asks { Goes_on (asked self.old) (asked self.new) (asks_given (For_plain file.now number) result) }
         ensures gives { IfOk result (λ f. StandsFor form (sources self.new) (λ p. p.code (plain_site file.now number)) f) }
         ensures has { IfOk result (λ f. HasPlain form (sources self.new) file.now number) }
         ensures lacks { IfErr result (λ e. LacksPlain form (sources self.new) file.now number e) };

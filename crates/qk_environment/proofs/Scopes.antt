@@ -5,11 +5,9 @@ use Rattle.std.proofs.Common.{◌≡◌, ◌<◌, ◌≤◌, ◌+◌, ◌-◌, m
 use Rattle.std.specs.Prelude.{IfOk}
 use Rattle.qk_ast.specs.Texts.{same_text}
 use Rattle.qk_ast.specs.declared.Stmt.{Stmt}
-use denote.Hole.Carrier.{hidden}
-use Rattle.qk_ast.specs.declared.Body.TheBlock.{hidden-the_row-Stmt-1}
 use Rattle.qk_ast.specs.declared.Body.TheVariants as b
 use Rattle.qk_ast.specs.declared.Pattern.{Pattern}
-use Rattle.qk_ast.specs.Names.{declared_by, declared_in, body_names, pattern_names, patterns_names}
+use Rattle.qk_ast.specs.Names.{declared_by, body_names, pattern_names, patterns_names}
 use Rattle.qk_meaning.specs.Flow.{opened}
 use Rattle.qk_meaning.specs.Value.{Fields, Undefined, end, field, Value}
 use Rattle.qk_meaning.specs.Parts.{value_at, or_undefined, found, has_field, replaced, without_first, zipped}
@@ -17,7 +15,9 @@ use Rattle.std.proofs.lemmas.List.{at_drop_all, take_all, length-append}
 use Rattle.qk_value.specs.declared.value.Value.{Value as RValue}
 use Rattle.qk_value.specs.View.{seen}
 use Rattle.qk_environment.specs.declared.scope.Named.{Named}
-use Rattle.qk_environment.specs.Scoping.{Captures, over, scope_seen, declared_of}
+use Rattle.qk_meaning.specs.In_order.{declared_of}
+use Rattle.qk_meaning.proofs.Rows.{declared_row}
+use Rattle.qk_environment.specs.Scoping.{Captures, over, scope_seen}
 
 over_take : (p : Captures) (names : List Named) (i : ℕ) (n : Named) (around : Fields) → i < length names → n ≡ get_or names i n → over p (take (suc i) names) around ≡ field n.name (seen p n.value) (over p (take i names) around)
 over_take p [] i n around lt is = absurd (omega (arith, lt))
@@ -186,11 +186,6 @@ pub closed_names : (p : Captures) (names : List Named) (n : ℕ) → scope_seen 
 closed_names p names n = closed_from p names n (length names) (omega arith) ∙ ap (λ all. without_first n (over p all end)) (take_all (length names) names (omega arith))
 
 -- ---- the names of a block as a row
-
-pub declared_row : (all : List Stmt) → declared_in (hidden-the_row-Stmt-1 all) ≡ declared_of all
-unfolding hidden-the_row-Stmt-1 hidden
-declared_row [] = refl
-declared_row (x ∷ rest) = ap (λ names. declared_by x ++ names) (declared_row rest)
 
 pub block_names : (all : List Stmt) → body_names (b.Block all) ≡ declared_of all
 block_names all = declared_row all

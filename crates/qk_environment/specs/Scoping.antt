@@ -1,8 +1,6 @@
 -- The names in scope, as the meaning has them.
-use Rattle.std.specs.Prelude.{true, false, List, [], ◌∷◌, ◌++◌, codes}
+use Rattle.std.specs.Prelude.{true, false, List, [], ◌∷◌, codes}
 use Rattle.qk_ast.specs.declared.Pattern.{Pattern}
-use Rattle.qk_ast.specs.declared.Stmt.{Stmt}
-use Rattle.qk_ast.specs.Names.{declared_by}
 use Rattle.qk_ast.specs.Texts.{Text, same_text}
 use Rattle.qk_meaning.specs.Value.{Value, Site, Fields, end, field}
 use Rattle.qk_value.specs.View.{seen}
@@ -30,8 +28,3 @@ abbrev pub constant_names : Pattern → List Text
 constant_names (Pattern.Scope names) = []
 constant_names (Pattern.Name t) = t ∷ []
 constant_names (Pattern.Fields ts) = ts
-
--- the names that statements declare
-abbrev pub declared_of : List Stmt → List Text
-declared_of [] = []
-declared_of (statement ∷ rest) = declared_by statement ++ declared_of rest

@@ -6,7 +6,8 @@ ghost use Rattle.qk_meaning.specs.Evaluation.{without_track};
 ghost use Rattle.qk_meaning.specs.Flow.{opened};
 ghost use Rattle.qk_meaning.specs.Parts.{value_at, has_field, replaced, without_first, zipped};
 ghost use Rattle.qk_value.specs.View.{seen};
-ghost use Rattle.qk_environment.specs.Scoping.{Captures, scope_seen, untracked, declared_of, constant_names};
+ghost use Rattle.qk_meaning.specs.In_order.{declared_of};
+ghost use Rattle.qk_environment.specs.Scoping.{Captures, scope_seen, untracked, constant_names};
 ghost use Rattle.qk_ast.specs.Names.{body_names, declared_by, pattern_names, patterns_names};
 
 use qk_ast::{Body, Pattern, Stmt};

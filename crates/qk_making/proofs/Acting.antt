@@ -1,14 +1,17 @@
 -- How acts are put together.
-use Rattle.std.proofs.Common.{◌≡◌, ℕ, List, [], ◌∷◌, ◌++◌, length, set, Result, Ok, Err, refl, ap, ◌∙◌, sym, subst}
+use Rattle.std.proofs.Common.{◌≡◌, ℕ, false, List, [], ◌∷◌, ◌++◌, length, set, Result, Ok, Err, refl, ap, ◌∙◌, sym, subst}
 use Rattle.std.proofs.lemmas.List.{append_assoc, append-nil}
+use Rattle.qk_meaning.specs.Value as M
 use Rattle.qk_meaning.specs.Value.{Text}
 use Rattle.qk_meaning.specs.World as W
 use Rattle.qk_meaning.specs.World.{Loc}
 use Rattle.qk_meaning.specs.Heap.{object_at}
 use Rattle.qk_meaning.specs.Writing.{Becoming, Stays}
 use Rattle.qk_meaning.specs.Changes.{changed_in, located}
-use Rattle.qk_meaning.specs.Doing.{Outcome, Doing, Gives, Stops, Faults, after}
+use Rattle.qk_meaning.specs.Doing.{Outcome, Doing, Gives, Stops, Faults, after, give}
 use Rattle.qk_meaning.specs.Happening.{Happening, Did_act, Did_print}
+use Rattle.qk_meaning.specs.Readings.{captured_program_of}
+use Rattle.qk_meaning.specs.Running as R
 use Rattle.qk_meaning.specs.Running.{Running, printed, locations_read, reads_at, logs_told, becomes_so}
 use Rattle.qk_meaning.specs.Setting.{Setting, captures}
 use Rattle.qk_meaning.specs.References.{changed}
@@ -25,6 +28,7 @@ use Rattle.qk_code.specs.declared.stop.Stop.{Stop}
 use Rattle.qk_code.specs.declared.stop.Stop.TheVariants.{Fault, Ended, Code, Memory}
 use Rattle.qk_code.specs.Stops.{stop_of}
 use Rattle.qk_code.specs.Asked.{Goes_on, asks_in}
+use Rattle.qk_code.specs.Counts.{Counts, HasCause}
 use Rattle.qk_code.specs.World.{heard_in}
 use Rattle.qk_code.specs.Ran.{Unless_memory}
 use Rattle.qk_code.proofs.Runs.{goes_none, goes_all, heard_then, asks_then, unless_memory, unless_both}
@@ -60,6 +64,21 @@ comes_err seen seen' outcome next (Fault f) s h = ap (λ o. after o next) h
 comes_err seen seen' outcome next Ended s h = h
 comes_err seen seen' outcome next (Code why) s h = h
 comes_err seen seen' outcome next Memory s h = tt
+
+-- a setting and a state, for what holds whatever they are
+pub some_setting : Setting
+some_setting = record { program = captured_program_of []; enter = λ mode running f arguments. give M.Undefined; computed = λ a f. give M.Undefined; mode = R.Pure; running = []; file = []; tracks = false }
+
+pub some_state : Running
+some_state = record { heap = []; log = []; lines = []; turns = 0; trace = []; locals = M.end; hooking = R.Outside; kept = [] }
+
+-- an act isn't stopped by the code
+pub comes_cause : {A B : Type 0} (seen : A → B) (outcome : Outcome Running B) (counts : Counts) (r : Result A Stop) (s : Running) → Comes_to seen outcome r s → HasCause counts counts r
+comes_cause seen outcome counts (Ok a) s h = refl
+comes_cause seen outcome counts (Err (Fault f)) s h = refl
+comes_cause seen outcome counts (Err Ended) s h = refl
+comes_cause seen outcome counts (Err (Code why)) s h = absurd h
+comes_cause seen outcome counts (Err Memory) s h = refl
 
 -- the same of another result that is no result
 unless_err : (A A' P : Type 0) (e : Stop) → Unless_memory {A = A} (Err e) P → Unless_memory {A = A'} (Err e) P

@@ -10,6 +10,7 @@ ghost use Rattle.qk_meaning.specs.Calls as calls;
 ghost use Rattle.qk_value.specs.View.{seen_all};
 ghost use Rattle.qk_sites.specs.Symbols.{symbol_text};
 ghost use Rattle.qk_environment.specs.Scoping.{Captures, scope_seen};
+ghost use Rattle.qk_code.specs.Counts.{Counts, HasCause};
 ghost use Rattle.qk_code.specs.Standing.{Knows, site_seen};
 ghost use Rattle.qk_making.specs.Acting.{Comes_to, Leaves, seen_in};
 ghost use Rattle.qk_making.specs.Keeping.{code_kept};
@@ -28,7 +29,8 @@ use std::alloc::{AllocError, Global};
 ///
 /// `TreeTooLarge` and `TreeTooDeep`.
 pub fn make_function(alloc: Global, func: &Func, place: u32, scope: &Scope) -> Result<Value, Stop>
-    ensures { (here : Setting) (s : Running) → Knows here.program func.now → here.file ≡ func.now.file → s.locals ≡ scope_seen (captures here) scope.now.names.items → Comes_to (seen_in here) (making.made_function here place s) result s }
+    ensures made { (here : Setting) (s : Running) → Knows here.program func.now → here.file ≡ func.now.file → s.locals ≡ scope_seen (captures here) scope.now.names.items → Comes_to (seen_in here) (making.made_function here place s) result s }
+    ensures cause { (counts : Counts) → HasCause counts counts result }
 {
     let known = func.known_at(place);
     let code = code_at(alloc, &known.site)?;

@@ -1,7 +1,7 @@
 use Rattle.std.proofs.Common.{◌≡◌, ◌+◌, length, drop}
 use Rattle.qk_meaning.specs.Flow.{opened}
 use Rattle.qk_environment.specs.Scoping.{Captures, scope_seen}
-use Rattle.qk_environment.specs.Scoping.{declared_of}
+use Rattle.qk_meaning.specs.In_order.{declared_of}
 use Rattle.qk_environment.proofs.scope.Scope.open_declared.Given as goal
 
 abbrev pub invariant-loop-statement : goal.invariant-loop-statement
