@@ -1,13 +1,17 @@
-//! Trials of values, operators and objects, apart from them so that they are proved once.
+//! Trials of values, operators, objects and single steps of code, apart from them so that they are proved once.
 #![tactic(auto)]
 
 #[cfg(test)]
-mod answers;
+mod acts;
 #[cfg(test)]
 mod heard;
 #[cfg(test)]
+mod making;
+#[cfg(test)]
 mod names;
 #[cfg(test)]
-mod objects;
+mod operators;
 #[cfg(test)]
-mod tests;
+mod showing;
+#[cfg(test)]
+mod values;
