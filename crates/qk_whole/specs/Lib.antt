@@ -1,0 +1,14 @@
+pub mod Heights
+pub mod Meeting
+pub mod Elsewhere
+pub mod Telling
+pub mod Firsts
+pub mod Origins
+pub mod Literals
+pub mod Items
+pub mod Filing
+pub mod Kinds
+pub mod Taking
+pub mod Holding
+pub mod Numbers
+pub mod Refusing
