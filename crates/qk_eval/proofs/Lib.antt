@@ -1,0 +1,14 @@
+pub mod Growing
+pub mod Forms
+pub mod Acted
+pub mod Steps
+pub mod Loops
+pub mod Binding
+pub mod Expressions
+pub mod Roots
+pub mod Hooking
+pub mod Entering
+pub mod No_function
+pub mod Plain_steps
+pub mod Storing
+pub mod Calling

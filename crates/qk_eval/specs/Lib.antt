@@ -1,0 +1,5 @@
+pub mod Seeing
+pub mod Placing
+pub mod Standing
+pub mod Lists
+pub mod Called
