@@ -1,5 +1,11 @@
 #!/usr/bin/env node
-// Tries the judge of evaluation on worked examples.
+// Tries the judge of evaluation on worked examples, and the built program qk_call too where one is given.
+//
+// evaluation_examples.mjs [PROGRAM]
+import { spawnSync } from "node:child_process";
+import { mkdtempSync, rmSync, writeFileSync } from "node:fs";
+import { tmpdir } from "node:os";
+import { join } from "node:path";
 import { answer } from "./evaluate.mjs";
 
 const PURE = [
@@ -13,15 +19,22 @@ const PURE = [
 ];
 const EFFECT = [["() => { const a = [1]; a[1] = 2; a[3] = 3; }", "fault IndexPastEnd"], ["() => { const a = { x: 1 }; a.me = a; return a; }", '&0{"x":1,"me":&0}'],
   ["() => { console.log(`a${1}`); return [1].push(2); }", "log a1\n2"]];
+const program = process.argv[2], folder = mkdtempSync(join(tmpdir(), "examples-"));
 let wrong = 0;
-const check = (text, mode, wanted, ...limits) => {
-  const got = answer(`const f = ${text};`, "f", mode, ...limits);
-  if (got !== `${wanted}\n`) { wrong++; console.log(`${text}: wanted ${wanted}, got ${got}`); }
+const compare = (text, wanted, got) => { if (got !== `${wanted}\n`) { wrong++; console.log(`${text}: wanted ${wanted}, got ${got}`); } };
+const check = (text, mode, wanted, ...limits) => compare(text, wanted, answer(`const f = ${text};`, "f", mode, ...limits));
+const both = (text, mode, wanted) => {
+  check(text, mode, wanted);
+  if (!program) return;
+  writeFileSync(join(folder, "root.jsx"), `const f = ${text};\n`);
+  const run = spawnSync(program, ["root.jsx", "f", mode], { cwd: folder, encoding: "utf8" });
+  compare(`${text}, by the program (${run.status})`, wanted, run.stdout);
 };
-for (const [text, wanted] of PURE) check(`() => ${text}`, "pure", wanted);
-for (const [text, wanted] of EFFECT) check(text, "effect", wanted);
+for (const [text, wanted] of PURE) both(`() => ${text}`, "pure", wanted);
+for (const [text, wanted] of EFFECT) both(text, "effect", wanted);
 check("() => [1, 2].map((x) => x)", "pure", "[1,2]", 3, 2);
 check("() => [1, 2].map((x) => x)", "pure", "ended", 2, 2);
 check("() => [1, 2].map((x) => x)", "pure", "ended", 3, 1);
+rmSync(folder, { recursive: true });
 console.log(`${PURE.length + EFFECT.length + 3} examples, ${wrong} wrong`);
 process.exit(wrong ? 1 : 0);

@@ -1,0 +1,5 @@
+mod Lines
+mod Plays
+mod Texts
+mod Accepted
+mod Sources

@@ -1,0 +1,5 @@
+pub mod Lines
+pub mod Playing
+pub mod Printing
+pub mod Alone
+pub mod Calling
