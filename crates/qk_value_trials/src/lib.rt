@@ -12,6 +12,8 @@ mod names;
 #[cfg(test)]
 mod operators;
 #[cfg(test)]
+mod pages;
+#[cfg(test)]
 mod showing;
 #[cfg(test)]
 mod values;
