@@ -24,7 +24,8 @@ for (let at = 0; done < Number(number) && found < Number(stop); at++) {
     const run = spawnSync(program, ["root.jsx", name, mode], { cwd: folder, encoding: "utf8", maxBuffer: 1 << 26, timeout: 60000 });
     const last = wanted.trimEnd().split("\n").pop(), kind = /^(fault \w+|ended)$/.test(last) ? last : "a value";
     met.set(kind, (met.get(kind) ?? 0) + 1);
-    if (run.stdout === wanted && run.stderr === "") continue;
+    const status = kind === "a value" ? 0 : kind === "ended" ? 4 : 3;
+    if (run.stdout === wanted && run.stderr === "" && run.status === status) continue;
     found++;
     console.log(`${mode}: ${text.split("\n").find((line) => line.startsWith(`const ${name} =`))}\n  the judge: ${JSON.stringify(wanted)}\n  the program: ${JSON.stringify(run.stdout)} (${run.status}) ${run.stderr}`);
   }

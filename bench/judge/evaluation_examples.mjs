@@ -23,18 +23,20 @@ const program = process.argv[2], folder = mkdtempSync(join(tmpdir(), "examples-"
 let wrong = 0;
 const compare = (text, wanted, got) => { if (got !== `${wanted}\n`) { wrong++; console.log(`${text}: wanted ${wanted}, got ${got}`); } };
 const check = (text, mode, wanted, ...limits) => compare(text, wanted, answer(`const f = ${text};`, "f", mode, ...limits));
-const both = (text, mode, wanted) => {
-  check(text, mode, wanted);
+const statusOf = (wanted) => (/^fault /.test(wanted) ? 3 : wanted === "ended" ? 4 : 0);
+const both = (text, mode, wanted, ...limits) => {
+  check(text, mode, wanted, ...limits);
   if (!program) return;
   writeFileSync(join(folder, "root.jsx"), `const f = ${text};\n`);
-  const run = spawnSync(program, ["root.jsx", "f", mode], { cwd: folder, encoding: "utf8" });
+  const run = spawnSync(program, ["root.jsx", "f", mode, ...limits.map(String)], { cwd: folder, encoding: "utf8" });
   compare(`${text}, by the program (${run.status})`, wanted, run.stdout);
+  if (run.status !== statusOf(wanted)) { wrong++; console.log(`${text}: status ${run.status}`); }
 };
 for (const [text, wanted] of PURE) both(`() => ${text}`, "pure", wanted);
 for (const [text, wanted] of EFFECT) both(text, "effect", wanted);
-check("() => [1, 2].map((x) => x)", "pure", "[1,2]", 3, 2);
-check("() => [1, 2].map((x) => x)", "pure", "ended", 2, 2);
-check("() => [1, 2].map((x) => x)", "pure", "ended", 3, 1);
+both("() => [1, 2].map((x) => x)", "pure", "[1,2]", 3, 2);
+both("() => [1, 2].map((x) => x)", "pure", "ended", 2, 2);
+both("() => [1, 2].map((x) => x)", "pure", "ended", 3, 1);
 rmSync(folder, { recursive: true });
 console.log(`${PURE.length + EFFECT.length + 3} examples, ${wrong} wrong`);
 process.exit(wrong ? 1 : 0);

@@ -14,7 +14,7 @@ use Rattle.qk_heap.specs.declared.object.Object.{Object}
 use Rattle.qk_heap.specs.Told.{Told}
 use Rattle.qk_code.specs.declared.mode.Mode.{Mode}
 use Rattle.qk_code.specs.declared.stop.Stop.{Stop}
-use Rattle.qk_code.specs.Asked.{Ask}
+use Rattle.qk_code.specs.declared.ask.Ask.{Ask}
 use Rattle.qk_code.specs.Counts.{Counts}
 use Rattle.qk_code.specs.Modes.{mode_seen}
 use Rattle.qk_code.specs.Sources.{Sources, reading}

@@ -10,16 +10,17 @@ use Rattle.qk_application.specs.declared.application.Application.{Application}
 use Rattle.qk_code.specs.Sources.{Sources, Extends, reading}
 use Rattle.qk_whole.specs.Taking.{named}
 use Rattle.qk_call.specs.declared.played.Played.{Played}
+use Rattle.qk_call.specs.declared.played.Ending.{Ending}
 use Rattle.qk_call.specs.Calling.{ComesOf}
 use Rattle.qk_call.specs.Alone.{IsOfText}
-use Rattle.qk_call.specs.Playing.{PlaysNamed}
+use Rattle.qk_call.specs.Playing.{PlaysNamed, ending_of}
 use Rattle.qk_call.specs.Printing.{IsText}
 
 -- the file and the name are those of the texts with which the call was made
-pub comes_of : (source file name file' name' : Text) (a : Application) (before after : Sources) (most : Budget) (mode : Mode) (played : Played) (text : Text)
-    → IsOfText source file a → before.files ≡ named a.modules.list → Extends before after → file' ≡ file → name' ≡ name → PlaysNamed (reading Source after) file' name' most mode played → IsText played text
-    → ComesOf source file name most mode text
-comes_of source file name file' name' a before after most mode played text of files grows same_file same_name plays printed =
+pub comes_of : (source file name file' name' : Text) (a : Application) (before after : Sources) (most : Budget) (mode : Mode) (played : Played) (ending : Ending) (text : Text)
+    → IsOfText source file a → before.files ≡ named a.modules.list → Extends before after → file' ≡ file → name' ≡ name → PlaysNamed (reading Source after) file' name' most mode played → IsText played text → ending ≡ ending_of played.came
+    → ComesOf source file name most mode ending text
+comes_of source file name file' name' a before after most mode played ending text of files grows same_file same_name plays printed ends =
     let alone : named a.modules.list ≡ (file, of.tree) ∷ [] = ap (λ (b : Application). named b.modules.list) of.alone.is in
     let all : after.files ≡ (file, of.tree) ∷ grows.added = grows.files ∙ ap (λ (fs : List Named_module). fs ++ grows.added) (files ∙ alone) in
     let of_file : PlaysNamed (reading Source after) file name' most mode played = subst (λ (t : Text). PlaysNamed (reading Source after) t name' most mode played) same_file plays in
@@ -31,4 +32,5 @@ comes_of source file name file' name' a before after most mode played text of fi
       played = played;
       plays = subst (λ (fs : List Named_module). PlaysNamed (captured_program_of fs) file name most mode played) all of_name;
       is = printed;
+      ends = ends;
     }

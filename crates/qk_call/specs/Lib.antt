@@ -3,3 +3,4 @@ pub mod Playing
 pub mod Printing
 pub mod Alone
 pub mod Calling
+pub mod Words

@@ -20,6 +20,7 @@ use Rattle.qk_code.specs.declared.stop.Stop.TheVariants as S
 use Rattle.qk_code.specs.Sources.{Sources, Extends, reading}
 use Rattle.qk_eval.specs.Seeing.{value_seen}
 use Rattle.qk_call.specs.declared.played.Came.{Came}
+use Rattle.qk_call.specs.declared.played.Ending.{Ending}
 use Rattle.qk_call.specs.declared.played.Played.{Played}
 
 -- nothing was made, read or printed, and hook calls are given nothing
@@ -52,6 +53,12 @@ pub record PlaysNamed (p : Program) (file name : Text) (most : Budget) (mode : M
 -- the name gives this function, whatever files come later
 abbrev pub IsNamed : Form → Sources → (file name : Text) → Fun → Type 0
 IsNamed form sources file name f = (later : Sources) → Extends sources later → root_reference ((reading form later).root file name) ≡ Of (value_seen (reading form later) (Function f))
+
+-- whether it gave a value, stopped by a fault, or because the budget ended
+abbrev pub ending_of : Came → Ending
+ending_of (Came.Value v) = Ending.Value
+ending_of (Came.Fault f) = Ending.Fault
+ending_of Came.Ended = Ending.Ended
 
 -- a call that came out so was answered by this
 abbrev pub answered_by : Came → Result Value Stop

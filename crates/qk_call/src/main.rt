@@ -1,5 +1,5 @@
-//! Calls a root arrow of the module in a file, without arguments, and prints what came of it: `qk_call FILE NAME [pure|effect]`.
-//! It ends with 0 however the call came out, and else with the status of `qwk` for words, sources, the store, the sink or memory.
+//! Calls a root arrow of the module in a file, without arguments, and prints what came of it: `qk_call FILE NAME [pure|effect [TURNS DEPTH]]`.
+//! It ends with 0 at a value, 3 at a fault and 4 where the budget ended, and else with the status of `qwk` for words, sources, the store, the sink or memory.
 #![tactic(auto)]
 
 mod alone;
@@ -15,7 +15,7 @@ mod values;
 mod words;
 
 use calling::call_wanted;
-use qk_base::Budget;
+use played::Ending;
 use qk_store::{DirStore, OutSink};
 use std::alloc::{AllocError, Global};
 use std::env;
@@ -27,28 +27,20 @@ use words::read_words;
 
 fn main(rt: HostRuntime) -> ExitCode {
     match call(&rt, rt.alloc()) {
-        Ok(()) => ExitCode::from(0),
+        Ok(ending) => ExitCode::from(ending.status()),
         Err(stop) => ExitCode::from(stop.status()),
     }
 }
 
 /// Calls what the words name, over the current folder and standard output.
-fn call(rt: &(impl Env + AllocGlobal + Files + Print), alloc: Global) -> Result<(), Stop> {
+fn call(rt: &(impl Env + AllocGlobal + Files + Print), alloc: Global) -> Result<Ending, Stop> {
     let words = all_words(rt, alloc)?;
     let Some(wanted) = read_words(words.as_slice()) else {
         return Err(Stop::Words);
     };
     let mut store = DirStore::new(rt, alloc, String::new(alloc));
     let mut out = OutSink::new(rt);
-    call_wanted(alloc, &wanted, ample(), &mut store, &mut out)
-}
-
-/// The budget of a call, which is more than what is called here needs.
-fn ample() -> Budget {
-    Budget {
-        turns: 10_000_000,
-        depth: 64,
-    }
+    call_wanted(alloc, &wanted, &mut store, &mut out)
 }
 
 /// The words after the program's name; none where they aren't text, so that they name no call.

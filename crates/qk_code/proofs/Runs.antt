@@ -1,5 +1,5 @@
 -- How runs are put together.
-use Rattle.std.proofs.Common.{◌≡◌, ◌<◌, ◌-◌, ℕ, zero, suc, Bool, false, List, [], ◌∷◌, ◌++◌, length, Result, Ok, Err, refl, ap, ◌∙◌, sym, subst, arith, le_trans}
+use Rattle.std.proofs.Common.{◌≡◌, ◌<◌, ◌-◌, ℕ, zero, suc, Bool, false, List, [], ◌∷◌, ◌++◌, length, Some, Result, Ok, Err, refl, ap, ◌∙◌, sym, subst, arith, le_trans}
 use Rattle.std.proofs.lemmas.List.{append_assoc, append-nil}
 use Rattle.qk_ast.specs.declared.Form.{Form}
 use Rattle.qk_base.specs.Left.{Left}
@@ -26,8 +26,10 @@ use Rattle.qk_code.specs.declared.stop.Stop.{Stop}
 use Rattle.qk_code.specs.declared.stop.Stop.TheVariants.{Fault, Ended, Code, Memory}
 use Rattle.qk_code.specs.Stops.{stop_by}
 use Rattle.qk_code.specs.Sources.{Sources, Extends, reading}
-use Rattle.qk_code.specs.Counts.{Counts, Later, HasCause, CausedBy}
-use Rattle.qk_code.specs.Asked.{Ask, For_body, For_plain, For_root, Goes_on, asks_answered, asks_in}
+use Rattle.qk_code.specs.Counts.{Counts, Later, HasCause, CausedBy, asked_last, in_vain, in_vain_by}
+use Rattle.qk_code.specs.declared.ask.Ask.{Ask}
+use Rattle.qk_code.specs.declared.ask.Ask.TheVariants.{Body, Plain, Root}
+use Rattle.qk_code.specs.Asked.{Goes_on, asks_answered, asks_in, Asks}
 use Rattle.qk_code.specs.World.{World, Spent, Past, awaiting, since, hooking_so, state, heard_in}
 use Rattle.qk_code.specs.Ran.{Agrees, Unless_memory, Ran}
 
@@ -74,10 +76,14 @@ heard_then (_ ∷ rest) other = heard_then rest other
 
 pub asks_then : (one other : List Happening) → asks_in (one ++ other) ≡ asks_in one ++ asks_in other
 asks_then [] other = refl
-asks_then (H.Entered (H.Of_symbol symbol) ∷ rest) other = ap (λ all. For_body symbol ∷ all) (asks_then rest other)
-asks_then (H.Entered (H.At_site site) ∷ rest) other = ap (λ all. For_plain site.file site.number ∷ all) (asks_then rest other)
-asks_then (H.Used file name ∷ rest) other = ap (λ all. For_root file name ∷ all) (asks_then rest other)
+asks_then (H.Entered (H.Of_symbol symbol) ∷ rest) other = ap (λ all. Body symbol ∷ all) (asks_then rest other)
+asks_then (H.Entered (H.At_site site) ∷ rest) other = ap (λ all. Plain site.file site.number ∷ all) (asks_then rest other)
+asks_then (H.Used file name ∷ rest) other = ap (λ all. Root file name ∷ all) (asks_then rest other)
 asks_then (_ ∷ rest) other = asks_then rest other
+
+-- what the first is asked for, of which nothing was in vain, and what the other is asked for
+asks_all : (one other : List Happening) (vain : List Ask) → (asks_in one ++ []) ++ (asks_in other ++ vain) ≡ asks_in (one ++ other) ++ vain
+asks_all one other vain = ap (λ l. l ++ (asks_in other ++ vain)) (append-nil (asks_in one)) ∙ (sym (append_assoc (asks_in one) (asks_in other) vain) ∙ ap (λ l. l ++ vain) (sym (asks_then one other)))
 
 -- ---- pasts
 
@@ -140,11 +146,11 @@ adds_on : {B B' : Type 0} (s : Running) (outcome : Outcome Running B) (next : B 
 adds_on s (Gives b u) next grows h = adds_then s u (state_left (next b u)) h (grows b u)
 adds_on s (Stops why u) next grows h = h
 
-agrees_err : {A A' B B' : Type 0} (seen : A → B) (seen' : A' → B') (outcome : Outcome Running B) (next : B → Doing Running B') (e : Stop) (s : Running) → ((b : B) → Adding B' (next b) (next b)) → Agrees seen outcome (Err e) s → Agrees seen' (after outcome next) (Err e) s
-agrees_err seen seen' o next (Fault f) s grows h = record { locals = h.locals; hooking = h.hooking; is = ap (λ o. after o next) h.is }
-agrees_err seen seen' o next Ended s grows h = record { locals = h.locals; hooking = h.hooking; is = ap (λ o. after o next) h.is }
-agrees_err seen seen' o next (Code why) s grows h = adds_on s o next grows h
-agrees_err seen seen' o next Memory s grows h = tt
+agrees_err : {A A' B B' : Type 0} (seen : A → B) (seen' : A' → B') (asks : List Ask) (outcome : Outcome Running B) (next : B → Doing Running B') (e : Stop) (s : Running) → ((b : B) → Adding B' (next b) (next b)) → Agrees seen asks outcome (Err e) s → Agrees seen' asks (after outcome next) (Err e) s
+agrees_err seen seen' asks o next (Fault f) s grows h = record { locals = h.locals; hooking = h.hooking; is = ap (λ o. after o next) h.is }
+agrees_err seen seen' asks o next Ended s grows h = record { locals = h.locals; hooking = h.hooking; is = ap (λ o. after o next) h.is }
+agrees_err seen seen' asks o next (Code why) s grows h = record { ask = h.ask; only = h.only; next = h.next; asked = h.asked; adds = adds_on (record s { trace = s.trace ++ (h.next ∷ []) }) o next grows h.adds }
+agrees_err seen seen' asks o next Memory s grows h = tt
 
 -- ---- asks
 
@@ -156,13 +162,13 @@ pub record Is_ask (h : Happening) (ask : Ask) : Type 0 where
   pub unprinted : printed_in (h ∷ []) ≡ []
   pub unanswered : answers_in (h ∷ []) ≡ []
 
-pub body_asked : (symbol : Text) → Is_ask (H.Entered (H.Of_symbol symbol)) (For_body symbol)
+pub body_asked : (symbol : Text) → Is_ask (H.Entered (H.Of_symbol symbol)) (Body symbol)
 body_asked symbol = record { asks = refl; unheard = refl; unlogged = refl; unprinted = refl; unanswered = refl }
 
-pub plain_asked : (file : Text) (number : ℕ) → Is_ask (H.Entered (H.At_site (plain_site file number))) (For_plain file number)
+pub plain_asked : (file : Text) (number : ℕ) → Is_ask (H.Entered (H.At_site (plain_site file number))) (Plain file number)
 plain_asked file number = record { asks = refl; unheard = refl; unlogged = refl; unprinted = refl; unanswered = refl }
 
-pub root_asked : (file name : Text) → Is_ask (H.Used file name) (For_root file name)
+pub root_asked : (file name : Text) → Is_ask (H.Used file name) (Root file name)
 root_asked file name = record { asks = refl; unheard = refl; unlogged = refl; unprinted = refl; unanswered = refl }
 
 since_ask : (past : Past) (h : Happening) → logged_in (h ∷ []) ≡ [] → printed_in (h ∷ []) ≡ [] → since past (h ∷ []) ≡ record past { trace = past.trace ++ h ∷ [] }
@@ -183,17 +189,18 @@ module _ (form : Form) (hooked : Bool) (given : Program → Type 0) where
         happened = λ p log. h.happened p log ++ k.happened p (log ++ logged_in (h.happened p log));
         unanswered = λ o p log. answers_then (h.happened p log) _ ∙ (ap (λ xs. xs ++ answers_in (k.happened p (log ++ logged_in (h.happened p log)))) (h.unanswered o p log) ∙ k.unanswered o p _);
         heard = unless_both r (λ later p log. subst (Goes_on w.told u.told) (sym (heard_then (h.happened p log) _)) (goes_all w.told v.told u.told _ _ (h.heard p log) (later p _))) k.heard;
-        asked = unless_both r (λ later p log. subst (Goes_on w.asked u.asked) (sym (asks_then (h.happened p log) _)) (goes_all w.asked v.asked u.asked _ _ (h.asked p log) (later p _))) k.asked;
+        asked = unless_both r (λ later p log. subst (Goes_on w.asked u.asked) (asks_all (h.happened p log) _ (in_vain r u.counts)) (goes_all w.asked v.asked u.asked _ _ (h.asked p log) (later p _))) k.asked;
         agrees = λ files more g past.
             let p : Program = reading form files in
             let one : List Happening = h.happened p past.log in
             let two : List Happening = k.happened p (past.log ++ logged_in one) in
+            let asks : List Ask = in_vain r u.counts in
             let h' : meaning p (state hooked p (awaiting (awaiting past two) one) w) ≡ Gives (seen p a) (state hooked p (since (awaiting past two) one) v) = h.agrees files (extends_all _ _ _ k.grows more) g (awaiting past two) in
-            let k' : Agrees (seen' p) (next p (seen p a) (state hooked p (awaiting (since past one) two) v)) r (state hooked p (since (since past one) two) u) = k.agrees files more g (since past one) in
-            let both : Agrees (seen' p) (after (meaning p (state hooked p (awaiting (awaiting past two) one) w)) (next p)) r (state hooked p (since (since past one) two) u) =
-            subst (λ o. Agrees (seen' p) (after o (next p)) r (state hooked p (since (since past one) two) u)) (sym h') k' in
-            subst (λ x. Agrees (seen' p) (after (meaning p (state hooked p x w)) (next p)) r (state hooked p (since past (one ++ two)) u)) (awaiting_then past one two)
-            (subst (λ x. Agrees (seen' p) (after (meaning p (state hooked p (awaiting (awaiting past two) one) w)) (next p)) r (state hooked p x u)) (since_then past one two) both);
+            let k' : Agrees (seen' p) asks (next p (seen p a) (state hooked p (awaiting (since past one) two) v)) r (state hooked p (since (since past one) two) u) = k.agrees files more g (since past one) in
+            let both : Agrees (seen' p) asks (after (meaning p (state hooked p (awaiting (awaiting past two) one) w)) (next p)) r (state hooked p (since (since past one) two) u) =
+            subst (λ o. Agrees (seen' p) asks (after o (next p)) r (state hooked p (since (since past one) two) u)) (sym h') k' in
+            subst (λ x. Agrees (seen' p) asks (after (meaning p (state hooked p x w)) (next p)) r (state hooked p (since past (one ++ two)) u)) (awaiting_then past one two)
+            (subst (λ x. Agrees (seen' p) asks (after (meaning p (state hooked p (awaiting (awaiting past two) one) w)) (next p)) r (state hooked p x u)) (since_then past one two) both);
       }
 
   -- a run that stopped, where more would have come
@@ -209,7 +216,7 @@ module _ (form : Form) (hooked : Bool) (given : Program → Type 0) where
         unanswered = h.unanswered;
         heard = unless_err A A' _ e h.heard;
         asked = unless_err A A' _ e h.asked;
-        agrees = λ files more g past. agrees_err (seen (reading form files)) (seen' (reading form files)) (meaning (reading form files) (state hooked (reading form files) (awaiting past (h.happened (reading form files) past.log)) w)) (next (reading form files)) e _ (adding (reading form files)) (h.agrees files more g past);
+        agrees = λ files more g past. agrees_err (seen (reading form files)) (seen' (reading form files)) (in_vain_by e v.counts) (meaning (reading form files) (state hooked (reading form files) (awaiting past (h.happened (reading form files) past.log)) w)) (next (reading form files)) e _ (adding (reading form files)) (h.agrees files more g past);
       })
 
   -- ---- the same run
@@ -229,7 +236,7 @@ module _ (form : Form) (hooked : Bool) (given : Program → Type 0) where
         asked = h.asked;
         agrees = λ files more g past.
             let p : Program = reading form files in
-            subst (λ o. Agrees (seen p) o r (state hooked p (since past (h.happened p past.log)) v)) (e p g (awaiting past (h.happened p past.log))) (h.agrees files more g past);
+            subst (λ o. Agrees (seen p) (in_vain r v.counts) o r (state hooked p (since past (h.happened p past.log)) v)) (e p g (awaiting past (h.happened p past.log))) (h.agrees files more g past);
       }
 
   -- where the names in scope are changed first
@@ -247,7 +254,7 @@ module _ (form : Form) (hooked : Bool) (given : Program → Type 0) where
         asked = h.asked;
         agrees = λ files more g past.
             let p : Program = reading form files in
-            subst (λ o. Agrees (seen p) o r (state hooked p (since past (h.happened p past.log)) v)) (e p g (awaiting past (h.happened p past.log))) (h.agrees files more g past);
+            subst (λ o. Agrees (seen p) (in_vain r v.counts) o r (state hooked p (since past (h.happened p past.log)) v)) (e p g (awaiting past (h.happened p past.log))) (h.agrees files more g past);
       }
 
   -- more is given than was asked for, of whatever files come later
@@ -273,9 +280,9 @@ module _ (form : Form) (hooked : Bool) (given : Program → Type 0) where
       → Extends w.sources v.sources → Later w.counts v.counts → HasCause w.counts v.counts r → Spent w.left v.left
       → ((p : Program) (log : List Loc) → answers_in (h p log) ≡ [])
       → Unless_memory r ((p : Program) (log : List Loc) → Goes_on w.told v.told (heard_in (h p log)))
-      → Unless_memory r ((p : Program) (log : List Loc) → Goes_on w.asked v.asked (asks_in (h p log)))
+      → Unless_memory r ((p : Program) (log : List Loc) → Goes_on w.asked v.asked (asks_in (h p log) ++ in_vain r v.counts))
       → ((files : Sources) → Extends v.sources files → given (reading form files) → (past : Past)
-      → Agrees (seen (reading form files)) (meaning (reading form files) (state hooked (reading form files) past w)) r (state hooked (reading form files) (since past (h (reading form files) past.log)) v))
+      → Agrees (seen (reading form files)) (in_vain r v.counts) (meaning (reading form files) (state hooked (reading form files) past w)) r (state hooked (reading form files) (since past (h (reading form files) past.log)) v))
       → Ran form hooked given seen meaning w r v
   ran_telling seen meaning w v r h grows later cause spent none heard asked agrees =
       record {
@@ -289,18 +296,18 @@ module _ (form : Form) (hooked : Bool) (given : Program → Type 0) where
         asked = asked;
         agrees = λ files more g past.
             let p : Program = reading form files in
-            subst (λ x. Agrees (seen p) (meaning p (state hooked p x w)) r (state hooked p (since past (h p past.log)) v)) (sym (awaiting_none past (h p past.log) (none p past.log))) (agrees files more g past);
+            subst (λ x. Agrees (seen p) (in_vain r v.counts) (meaning p (state hooked p x w)) r (state hooked p (since past (h p past.log)) v)) (sym (awaiting_none past (h p past.log) (none p past.log))) (agrees files more g past);
       }
 
   -- nothing is told
   pub ran_quiet : {A B : Type 0} (seen : Program → A → B) (meaning : Program → Doing Running B) (w v : World) (r : Result A Stop)
-      → Extends w.sources v.sources → Later w.counts v.counts → HasCause w.counts v.counts r → Spent w.left v.left → Unless_memory r (Goes_on w.told v.told []) → Unless_memory r (Goes_on w.asked v.asked [])
+      → Extends w.sources v.sources → Later w.counts v.counts → HasCause w.counts v.counts r → Spent w.left v.left → Unless_memory r (Goes_on w.told v.told []) → Unless_memory r (Goes_on w.asked v.asked (in_vain r v.counts))
       → ((files : Sources) → Extends v.sources files → given (reading form files) → (past : Past)
-      → Agrees (seen (reading form files)) (meaning (reading form files) (state hooked (reading form files) past w)) r (state hooked (reading form files) past v))
+      → Agrees (seen (reading form files)) (in_vain r v.counts) (meaning (reading form files) (state hooked (reading form files) past w)) r (state hooked (reading form files) past v))
       → Ran form hooked given seen meaning w r v
   ran_quiet seen meaning w v r grows later cause spent told asked agrees =
       ran_telling seen meaning w v r (λ p log. []) grows later cause spent (λ p log. refl) (unless_both r (λ t p log. t) told) (unless_both r (λ a p log. a) asked)
-      (λ files more g past. let p : Program = reading form files in subst (λ x. Agrees (seen p) (meaning p (state hooked p past w)) r (state hooked p x v)) (sym (since_none past)) (agrees files more g past))
+      (λ files more g past. let p : Program = reading form files in subst (λ x. Agrees (seen p) (in_vain r v.counts) (meaning p (state hooked p past w)) r (state hooked p x v)) (sym (since_none past)) (agrees files more g past))
 
   -- nothing is done, and a result given
   pub ran_gives : {A B : Type 0} (seen : Program → A → B) (meaning : Program → Doing Running B) (w : World) (a : A)
@@ -362,48 +369,31 @@ module _ (form : Form) (hooked : Bool) (given : Program → Type 0) where
   ran_asked h ask w sources counts asked is grows same goes =
       let v : World = record w { sources = sources; counts = counts; asked = asked } in
       ran_telling (λ p (u : Unit {0}). u) (λ p. noted h) w v (Ok tt) (λ p log. h ∷ []) grows (rw same (later_self _)) same (spent_self _) (λ p log. is.unanswered)
-      (λ p log. subst (Goes_on w.told w.told) (sym is.unheard) (goes_none _)) (λ p log. subst (Goes_on w.asked asked) (sym is.asks) goes)
+      (λ p log. subst (Goes_on w.told w.told) (sym is.unheard) (goes_none _)) (λ p log. subst (λ l. Goes_on w.asked asked (l ++ [])) (sym is.asks) goes)
       (λ files more g past. let p : Program = reading form files in subst (λ x. noted h (state hooked p past w) ≡ Gives tt (state hooked p x v)) (sym (since_ask past h is.unlogged is.unprinted)) refl)
 
-  -- it gives nothing, and nothing more is done
-  pub ran_refused : {A B X : Type 0} (seen : Program → A → B) (next : Program → Doing Running B) (h : Happening) (ask : Ask) (w : World) (sources : Sources) (counts : Counts) (asked : List Ask → Type 0) (r : Result A Stop) (why : CodeFault)
-      → r ≡ Err (stop_by why) → Is_ask h ask → Extends w.sources sources → CausedBy {A = X} w.counts counts (Err why) → Goes_on w.asked asked (asks_answered {A = X} ask (Err why)) → ((p : Program) → Adding B (next p) (next p))
-      → Ran form hooked given seen (λ p s. after (noted h s) (λ u. next p)) w r (record w { sources = sources; counts = counts; asked = asked })
+  -- it gives nothing of what is entered or used next, and nothing more is done
+  pub ran_refused : {A B X : Type 0} (seen : Program → A → B) (next : Program → Doing Running B) (h : Program → Happening) (ask : Ask) (w : World) (sources : Sources) (counts : Counts) (asked : List Ask → Type 0) (r : Result A Stop) (why : CodeFault)
+      → r ≡ Err (stop_by why) → ((p : Program) → Asks (h p) ask) → Extends w.sources sources → CausedBy {A = X} w.counts counts ask (Err why) → Goes_on w.asked asked (asks_answered {A = X} ask (Err why)) → ((p : Program) → Adding B (next p) (next p))
+      → Ran form hooked given seen (λ p s. after (noted (h p) s) (λ u. next p)) w r (record w { sources = sources; counts = counts; asked = asked })
   ran_refused {A} {B} {X} seen next h ask w sources counts asked r why rs is grows cause goes adding = by why rs cause goes
     where
-      stopped : (why : CodeFault) → HasCause {A = A} w.counts counts (Err (Code why)) → Later w.counts counts → Goes_on w.asked asked (ask ∷ []) → Ran form hooked given seen (λ p s. after (noted h s) (λ u. next p)) w (Err (Code why)) (record w { sources = sources; counts = counts; asked = asked })
-      stopped why because later goes =
-          ran_telling seen (λ p s. after (noted h s) (λ u. next p)) w (record w { sources = sources; counts = counts; asked = asked }) (Err (Code why)) (λ p log. h ∷ []) grows later because (spent_self _) (λ p log. is.unanswered)
-          (λ p log. subst (Goes_on w.told w.told) (sym is.unheard) (goes_none _)) (λ p log. subst (Goes_on w.asked asked) (sym is.asks) goes)
+      v : World
+      v = record w { sources = sources; counts = counts; asked = asked }
+
+      stopped : (why : CodeFault) → HasCause {A = A} w.counts counts (Err (Code why)) → counts.last ≡ Some (record { ask = ask; why = why }) → Later w.counts counts → Goes_on w.asked asked (ask ∷ []) → Ran form hooked given seen (λ p s. after (noted (h p) s) (λ u. next p)) w (Err (Code why)) v
+      stopped why because last later goes =
+          let only : asked_last counts.last ≡ ask ∷ [] = ap asked_last last in
+          ran_quiet seen (λ p s. after (noted (h p) s) (λ u. next p)) w v (Err (Code why)) grows later because (spent_self _) (goes_none _) (subst (Goes_on w.asked asked) (sym only) goes)
           (λ files more g past.
           let p : Program = reading form files in
-          subst (λ x. Adds (state hooked p x (record w { sources = sources; counts = counts; asked = asked })) (state_left (after (noted h (state hooked p past w)) (λ u. next p)))) (sym (since_ask past h is.unlogged is.unprinted)) (adding p (state hooked p (record past { trace = past.trace ++ h ∷ [] }) w)))
+          record { ask = ask; only = only; next = h p; asked = is p; adds = adding p (record (state hooked p past w) { trace = past.trace ++ (h p ∷ []) }) })
 
-      by : (why : CodeFault) → r ≡ Err (stop_by why) → CausedBy {A = X} w.counts counts (Err why) → Goes_on w.asked asked (asks_answered {A = X} ask (Err why)) → Ran form hooked given seen (λ p s. after (noted h s) (λ u. next p)) w r (record w { sources = sources; counts = counts; asked = asked })
-      by (C.Missing file) rs cause goes = rw rs (stopped (C.Missing file) cause.cause cause.later goes)
-      by (C.Bad file) rs cause goes = rw rs (stopped (C.Bad file) cause.cause cause.later goes)
-      by C.Store rs cause goes = rw rs (stopped C.Store cause.cause cause.later goes)
-      by C.Memory rs cause goes = ran_memory seen _ w (record w { sources = sources; counts = counts; asked = asked }) r rs grows cause.cause (spent_self _)
-
-  fewer_turns : (s t : Running) (turns : ℕ) → Adds s t → Adds (record s { turns = turns }) t
-  fewer_turns s t turns a = record { told = a.told; trace = a.trace; log = a.log; lines = a.lines; made = a.made; kinds = a.kinds }
-
-  -- it has nothing to give, and nothing was asked for
-  pub ran_lacks : {A B X : Type 0} (seen : Program → A → B) (meaning : Program → Doing Running B) (w : World) (left : Left) (counts : Counts) (asked : List Ask → Type 0) (r : Result A Stop) (why : CodeFault)
-      → r ≡ Err (stop_by why) → Spent w.left left → CausedBy {A = X} w.counts counts (Err why) → Goes_on w.asked asked [] → ((p : Program) (s : Running) → Adds s (state_left (meaning p s)))
-      → Ran form hooked given seen meaning w r (record w { left = left; counts = counts; asked = asked })
-  ran_lacks {A} {B} {X} seen meaning w left counts asked r why rs spent cause goes adding = by why rs cause
-    where
-      stopped : (why : CodeFault) → HasCause {A = A} w.counts counts (Err (Code why)) → Later w.counts counts → Ran form hooked given seen meaning w (Err (Code why)) (record w { left = left; counts = counts; asked = asked })
-      stopped why because later =
-          ran_quiet seen meaning w (record w { left = left; counts = counts; asked = asked }) (Err (Code why)) (extends_self _) later because spent (goes_none _) goes
-          (λ files more g past. let p : Program = reading form files in fewer_turns (state hooked p past w) (state_left (meaning p (state hooked p past w))) left.turns (adding p (state hooked p past w)))
-
-      by : (why : CodeFault) → r ≡ Err (stop_by why) → CausedBy {A = X} w.counts counts (Err why) → Ran form hooked given seen meaning w r (record w { left = left; counts = counts; asked = asked })
-      by (C.Missing file) rs cause = rw rs (stopped (C.Missing file) cause.cause cause.later)
-      by (C.Bad file) rs cause = rw rs (stopped (C.Bad file) cause.cause cause.later)
-      by C.Store rs cause = rw rs (stopped C.Store cause.cause cause.later)
-      by C.Memory rs cause = ran_memory seen meaning w (record w { left = left; counts = counts; asked = asked }) r rs (extends_self _) cause.cause spent
+      by : (why : CodeFault) → r ≡ Err (stop_by why) → CausedBy {A = X} w.counts counts ask (Err why) → Goes_on w.asked asked (asks_answered {A = X} ask (Err why)) → Ran form hooked given seen (λ p s. after (noted (h p) s) (λ u. next p)) w r v
+      by (C.Missing file) rs cause goes = rw rs (stopped (C.Missing file) (record { ask = ask; because = cause.cause }) cause.cause.last cause.later goes)
+      by (C.Bad file) rs cause goes = rw rs (stopped (C.Bad file) (record { ask = ask; because = cause.cause }) cause.cause.last cause.later goes)
+      by C.Store rs cause goes = rw rs (stopped C.Store (record { ask = ask; because = cause.cause }) cause.cause.last cause.later goes)
+      by C.Memory rs cause goes = ran_memory seen _ w v r rs grows cause.cause (spent_self _)
 
   -- ---- the host is told
 
@@ -415,7 +405,7 @@ module _ (form : Form) (hooked : Bool) (given : Program → Type 0) where
   ran_told h w told hears asks logs prints answers =
       let v : World = record w { told = told } in
       ran_telling (λ p (u : Unit {0}). u) (λ p s. Gives tt (record s { trace = s.trace ++ h p s.log })) w v (Ok tt) h (extends_self _) (later_self _) refl (spent_self _) answers hears
-      (λ p log. subst (Goes_on w.asked w.asked) (sym (asks p log)) (goes_none _))
+      (λ p log. subst (λ l. Goes_on w.asked w.asked (l ++ [])) (sym (asks p log)) (goes_none _))
       (λ files more g past.
       let p : Program = reading form files in
       let now : List Happening = h p past.log in
@@ -430,16 +420,16 @@ module _ (form : Form) (hooked : Bool) (given : Program → Type 0) where
 
   -- behind what is done, the names in scope become others and hook calls are answered otherwise
   agrees_behind : {A B : Type 0} (seen : A → B) (outcome : Outcome Running B) (locals : Fields → Fields) (hooking : Hooking → Hooking) (r : Result A Stop) (t : Running)
-      → Agrees seen outcome r t → Agrees seen (after outcome (λ a u. Gives a (record u { locals = locals u.locals; hooking = hooking u.hooking }))) r (record t { locals = locals t.locals; hooking = hooking t.hooking })
-  agrees_behind seen o locals hooking (Ok a) t h = ap (λ x. after x (λ a u. Gives a (record u { locals = locals u.locals; hooking = hooking u.hooking }))) h
-  agrees_behind seen o locals hooking (Err (Fault f)) t h = record { locals = h.locals; hooking = h.hooking; is = ap (λ x. after x (λ a u. Gives a (record u { locals = locals u.locals; hooking = hooking u.hooking }))) h.is }
-  agrees_behind seen o locals hooking (Err Ended) t h = record { locals = h.locals; hooking = h.hooking; is = ap (λ x. after x (λ a u. Gives a (record u { locals = locals u.locals; hooking = hooking u.hooking }))) h.is }
-  agrees_behind {A} {B} seen o locals hooking (Err (Code why)) t h = by o h
+      → (asks : List Ask) → Agrees seen asks outcome r t → Agrees seen asks (after outcome (λ a u. Gives a (record u { locals = locals u.locals; hooking = hooking u.hooking }))) r (record t { locals = locals t.locals; hooking = hooking t.hooking })
+  agrees_behind seen o locals hooking (Ok a) t asks h = ap (λ x. after x (λ a u. Gives a (record u { locals = locals u.locals; hooking = hooking u.hooking }))) h
+  agrees_behind seen o locals hooking (Err (Fault f)) t asks h = record { locals = h.locals; hooking = h.hooking; is = ap (λ x. after x (λ a u. Gives a (record u { locals = locals u.locals; hooking = hooking u.hooking }))) h.is }
+  agrees_behind seen o locals hooking (Err Ended) t asks h = record { locals = h.locals; hooking = h.hooking; is = ap (λ x. after x (λ a u. Gives a (record u { locals = locals u.locals; hooking = hooking u.hooking }))) h.is }
+  agrees_behind {A} {B} seen o locals hooking (Err (Code why)) t asks h = record { ask = h.ask; only = h.only; next = h.next; asked = h.asked; adds = by (record t { trace = t.trace ++ (h.next ∷ []) }) o h.adds }
     where
-      by : (o : Outcome Running B) → Adds t (state_left o) → Adds (record t { locals = locals t.locals; hooking = hooking t.hooking }) (state_left (after o (λ a u. Gives a (record u { locals = locals u.locals; hooking = hooking u.hooking }))))
-      by (Gives a u) h = adds_alike t u _ _ _ _ h
-      by (Stops why u) h = adds_alike t u _ _ _ _ h
-  agrees_behind seen o locals hooking (Err Memory) t h = tt
+      by : (t : Running) (o : Outcome Running B) → Adds t (state_left o) → Adds (record t { locals = locals t.locals; hooking = hooking t.hooking }) (state_left (after o (λ a u. Gives a (record u { locals = locals u.locals; hooking = hooking u.hooking }))))
+      by t (Gives a u) h = adds_alike t u _ _ _ _ h
+      by t (Stops why u) h = adds_alike t u _ _ _ _ h
+  agrees_behind seen o locals hooking (Err Memory) t asks h = tt
 
   -- what runs with its own names leaves those around as they are
   pub ran_within : {A B : Type 0} (seen : Program → A → B) (names : Program → Fields) (doing : Program → Doing Running B) (w v : World) (inner : Program → Fields) (r : Result A Stop)
@@ -454,7 +444,7 @@ module _ (form : Form) (hooked : Bool) (given : Program → Type 0) where
         unanswered = h.unanswered;
         heard = h.heard;
         asked = h.asked;
-        agrees = λ files more g past. agrees_behind (seen (reading form files)) _ (λ old. w.scope (reading form files)) (λ hooking. hooking) r _ (h.agrees files more g past);
+        agrees = λ files more g past. agrees_behind (seen (reading form files)) _ (λ old. w.scope (reading form files)) (λ hooking. hooking) r _ (in_vain r v.counts) (h.agrees files more g past);
       }
 
   -- a scope is opened, and closed behind what runs in it
@@ -474,9 +464,9 @@ module _ (form : Form) (hooked : Bool) (given : Program → Type 0) where
         agrees = λ files more g past.
             let p : Program = reading form files in
             let happened : List Happening = h.happened p past.log in
-            subst (λ x. Agrees (seen p) (scoped names (doing p) (state hooked p (awaiting past happened) w)) r (record (state hooked p (since past happened) v) { locals = x })) (sym (closes p))
-            (subst (λ x. Agrees (seen p) (after (doing p (record (state hooked p (awaiting past happened) w) { locals = x })) (λ a u. Gives a (record u { locals = without_first (length names) u.locals }))) r (record (state hooked p (since past happened) v) { locals = without_first (length names) (v.scope p) })) (opens p)
-            (agrees_behind (seen p) (doing p (state hooked p (awaiting past happened) (record w { scope = inner }))) (without_first (length names)) (λ hooking. hooking) r (state hooked p (since past happened) v) (h.agrees files more g past)));
+            subst (λ x. Agrees (seen p) (in_vain r v.counts) (scoped names (doing p) (state hooked p (awaiting past happened) w)) r (record (state hooked p (since past happened) v) { locals = x })) (sym (closes p))
+            (subst (λ x. Agrees (seen p) (in_vain r v.counts) (after (doing p (record (state hooked p (awaiting past happened) w) { locals = x })) (λ a u. Gives a (record u { locals = without_first (length names) u.locals }))) r (record (state hooked p (since past happened) v) { locals = without_first (length names) (v.scope p) })) (opens p)
+            (agrees_behind (seen p) (doing p (state hooked p (awaiting past happened) (record w { scope = inner }))) (without_first (length names)) (λ hooking. hooking) r (state hooked p (since past happened) v) (in_vain r v.counts) (h.agrees files more g past)));
       }
 
 -- what is given nothing where it calls hooks leaves the answers that are to come
@@ -495,6 +485,6 @@ ran_unhooked form hooked given seen doing w v r h =
       agrees = λ files more g past.
           let p : Program = reading form files in
           let happened : List Happening = h.happened p past.log in
-          subst (λ rest. Agrees (seen p) (unhooked (doing p) (state hooked p (awaiting past happened) w)) r (record (state hooked p (since past happened) v) { hooking = hooking_so hooked rest })) (ap (λ x. x ++ past.rest) (h.unanswered refl p past.log))
-          (agrees_behind form hooked given (seen p) (doing p (state false p (awaiting past happened) w)) (λ names. names) (λ hooking. hooking_so hooked (answers_in happened ++ past.rest)) r (state false p (since past happened) v) (h.agrees files more g past));
+          subst (λ rest. Agrees (seen p) (in_vain r v.counts) (unhooked (doing p) (state hooked p (awaiting past happened) w)) r (record (state hooked p (since past happened) v) { hooking = hooking_so hooked rest })) (ap (λ x. x ++ past.rest) (h.unanswered refl p past.log))
+          (agrees_behind form hooked given (seen p) (doing p (state false p (awaiting past happened) w)) (λ names. names) (λ hooking. hooking_so hooked (answers_in happened ++ past.rest)) r (state false p (since past happened) v) (in_vain r v.counts) (h.agrees files more g past));
     }

@@ -1,5 +1,5 @@
 -- What it is that what a code gave stands for a piece of code, or for what a root's name means.
-use Rattle.std.specs.Prelude.{◌≡◌, ◌<◌, ◌≤◌, ℕ, Bool, true, false, List, [], ◌∷◌, length, Option, Some, None, slice_get, get_or}
+use Rattle.std.specs.Prelude.{◌≡◌, ◌<◌, ◌≤◌, ℕ, Bool, true, false, List, [], ◌∷◌, length, Option, Some, None, get_or}
 use Rattle.qk_ast.specs.declared.Form.{Form}
 use Rattle.qk_ast.specs.declared.Form.TheVariants.{Source, Built}
 use Rattle.qk_ast.specs.declared.Imported.{Imported}

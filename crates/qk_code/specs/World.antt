@@ -10,7 +10,7 @@ use Rattle.qk_meaning.specs.Trace.{logged_in, printed_in, answers_in}
 use Rattle.qk_heap.specs.Told.{Told, Was_read, Has_changed, Besides}
 use Rattle.qk_code.specs.Sources.{Sources}
 use Rattle.qk_code.specs.Counts.{Counts}
-use Rattle.qk_code.specs.Asked.{Ask}
+use Rattle.qk_code.specs.declared.ask.Ask.{Ask}
 
 -- the files and counts of the code, and the lists of asks that it may stand for; the budget; the objects and the names in scope as a program sees them; the lists that the host may stand for
 pub record World : Type 1 where

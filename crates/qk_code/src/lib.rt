@@ -1,6 +1,7 @@
 //! What code stands on while it runs: where its functions come from, who is told of what it does, and why it stops.
 #![tactic(auto)]
 
+mod ask;
 mod code;
 mod func;
 mod host;
@@ -8,6 +9,7 @@ mod known;
 mod mode;
 mod stop;
 
+pub use ask::{Ask, Refusal};
 pub use code::Code;
 pub use func::{Func, Root};
 pub use host::{HookAnswer, HookKind, Host};

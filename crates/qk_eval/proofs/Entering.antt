@@ -20,7 +20,7 @@ use Rattle.qk_value.specs.declared.value.Fun.{Fun}
 use Rattle.qk_value.specs.declared.value.FunCode.{FunCode}
 use Rattle.qk_value.specs.declared.value.FunCode.TheVariants.{Symbol, Plain}
 use Rattle.qk_value.specs.declared.value.Addr.{Addr}
-use Rattle.qk_value.specs.View.{seen_all, seen_row, function, plain_of, plain_function, as_many, is_distinct, fits, plain_site}
+use Rattle.qk_value.specs.View.{seen_all, seen_row, function, plain_of, plain_function, as_many, is_distinct, fits, plain_site, no_symbol}
 use Rattle.qk_value.proofs.Viewing.{seen_listed, seen-Fun}
 use Rattle.qk_code.specs.declared.func.Func.{Func}
 use Rattle.qk_code.specs.declared.mode.Mode.{Mode}
@@ -30,12 +30,14 @@ use Rattle.qk_code.specs.declared.stop.CodeFault.{CodeFault}
 use Rattle.qk_code.specs.Stops.{stop_by}
 use Rattle.qk_code.specs.Sources.{Sources, Extends}
 use Rattle.qk_code.specs.Counts.{Counts, CausedBy}
-use Rattle.qk_code.specs.Asked.{Ask, For_body, For_plain, Goes_on, asks_answered}
+use Rattle.qk_code.specs.declared.ask.Ask.{Ask}
+use Rattle.qk_code.specs.declared.ask.Ask.TheVariants.{Body as For_body, Plain as For_plain}
+use Rattle.qk_code.specs.Asked.{Goes_on, Asks, asks_answered}
 use Rattle.qk_code.specs.Modes.{mode_seen}
 use Rattle.qk_code.specs.Standing.{code_of, Knows, Stands, StandsFor}
 use Rattle.qk_code.specs.World.{World, Spent, state}
 use Rattle.qk_code.specs.Ran.{Ran}
-use Rattle.qk_code.proofs.Runs.{Is_ask, ran_then, ran_same, ran_known, ran_moved, ran_turn, ran_ends, ran_memory, ran_asked, ran_refused, ran_lacks, ran_within, body_asked, plain_asked, extends_all, extends_self}
+use Rattle.qk_code.proofs.Runs.{Is_ask, ran_then, ran_same, ran_known, ran_moved, ran_turn, ran_ends, ran_memory, ran_asked, ran_refused, ran_within, body_asked, plain_asked, extends_all, extends_self}
 use Rattle.qk_eval.specs.Placing.{setting_so, addresses}
 use Rattle.qk_eval.specs.Seeing.{value_seen, values_seen, nothing}
 use Rattle.qk_eval.specs.Lists.{arrow_ran, arrow_entered}
@@ -92,6 +94,36 @@ entering_plain : (p : Program) (l : ℕ) (mode : Mode) (running : List Addr) (f 
 entering_plain p l mode running f file number func arguments s is has distinct same =
     ap {A = P.Code} (λ c. after (take_turn s) (λ u. ◌>>◌ (noted (Entered (At_site (plain_site file number)))) (inside c (setting_of p called_anew (entering p called_anew l) (mode_seen mode) (addresses running) c) (zipped func.captures (values_seen p f.captures)) arguments))) (sym has)
     ∙ ap (λ x. entering p called_anew (suc l) (mode_seen mode) (addresses running) x arguments s) (sym (plain_seen p f file number func is has distinct same))
+
+-- ---- a plain function, whatever values it has
+
+-- it is entered as the arrow that it is, or by a spelling that no text has where its values don't fit the names
+abbrev entered_as : (file : Text) (number : ℕ) (fitting : Bool) → Which
+entered_as file number true = At_site (plain_site file number)
+entered_as file number false = Of_symbol (no_symbol file number)
+
+asked_as : (file : Text) (number : ℕ) (fitting : Bool) → Asks (Entered (entered_as file number fitting)) (For_plain file number)
+asked_as file number true = refl
+asked_as file number false = refl
+
+abbrev inside_plain : (p : Program) (l : ℕ) (mode : Mode) (running : List Addr) (file : Text) (number : ℕ) (captured : M.Values) (arguments : List M.Value) (fitting : Bool) → Doing Running M.Value
+inside_plain p l mode running file number captured arguments true =
+    let code : P.Code = p.code (plain_site file number) in
+    inside code (setting_of p called_anew (entering p called_anew l) (mode_seen mode) (addresses running) code) (zipped (captures_in p (plain_site file number)) (listed captured)) arguments
+inside_plain p l mode running file number captured arguments false =
+    let code : P.Code = p.lifted (no_symbol file number) in
+    inside code (setting_of p called_anew (entering p called_anew l) (mode_seen mode) (addresses running) code) (zipped code.captures (listed captured)) arguments
+
+entering_some : (p : Program) (l : ℕ) (mode : Mode) (running : List Addr) (file : Text) (number : ℕ) (captured : M.Values) (hidden : Bool) (arguments : List M.Value) (s : Running) (fitting : Bool)
+    → after (take_turn s) (λ u. ◌>>◌ (noted (Entered (entered_as file number fitting))) (inside_plain p l mode running file number captured arguments fitting))
+    ≡ entering p called_anew (suc l) (mode_seen mode) (addresses running) (plain_of fitting (captures_in p (plain_site file number)) file number captured hidden) arguments s
+entering_some p l mode running file number captured hidden arguments s true = refl
+entering_some p l mode running file number captured hidden arguments s false = refl
+
+inside_adds : (p : Program) (l : ℕ) (mode : Mode) (running : List Addr) (file : Text) (number : ℕ) (captured : M.Values) (arguments : List M.Value) (fitting : Bool)
+    → Adding M.Value (inside_plain p l mode running file number captured arguments fitting) (inside_plain p l mode running file number captured arguments fitting)
+inside_adds p l mode running file number captured arguments true = code_adds p l (mode_seen mode) (addresses running) (p.code (plain_site file number)) (zipped (captures_in p (plain_site file number)) (listed captured)) arguments
+inside_adds p l mode running file number captured arguments false = code_adds p l (mode_seen mode) (addresses running) (p.lifted (no_symbol file number)) (zipped (p.lifted (no_symbol file number)).captures (listed captured)) arguments
 
 module _ (form : Form) (hooked : Bool) where
   -- what runs inside an arrow runs with its own names
@@ -157,7 +189,7 @@ module _ (form : Form) (hooked : Bool) where
 
     -- the code has no arrow of that symbol
     pub ran_not_entered : {X : Type 0} (symbol : Text) (sources : Sources) (counts : Counts) (asked : List Ask → Type 0) (r : Result Value Stop) (why : CodeFault)
-        → r ≡ Err (stop_by why) → f.code ≡ Symbol symbol → Extends w.sources sources → CausedBy {A = X} w.counts counts (Err why) → Goes_on w.asked asked (asks_answered {A = X} (For_body symbol) (Err why))
+        → r ≡ Err (stop_by why) → f.code ≡ Symbol symbol → Extends w.sources sources → CausedBy {A = X} w.counts counts (For_body symbol) (Err why) → Goes_on w.asked asked (asks_answered {A = X} (For_body symbol) (Err why))
         → Ran form hooked (λ p. Unit {0}) value_seen (λ p. entering p called_anew levels (mode_seen mode) (addresses running) (value_seen p (Function f)) (values_seen p arguments)) w r (record w { left = left; sources = sources; counts = counts; asked = asked })
     ran_not_entered {X} symbol sources counts asked r why rs code more cause goes =
         let given : Program → Type 0 = λ p. Unit {0} in
@@ -168,14 +200,26 @@ module _ (form : Form) (hooked : Bool) where
         let adds : (p : Program) → Adding M.Value (inner p) (inner p) = λ p. code_adds p l (mode_seen mode) (addresses running) (p.lifted symbol) (zipped (p.lifted symbol).captures (caught p)) (values_seen p arguments) in
         rw (is, code)
         (ran_then form hooked given nothing value_seen (λ p. take_turn) (λ p u s. after (noted (Entered (Of_symbol symbol)) s) (λ u. inner p)) w turned v tt r (ran_turn form hooked given w left turn took)
-        (ran_refused form hooked given {X = X} value_seen inner (Entered (Of_symbol symbol)) (For_body symbol) turned sources counts asked r why rs (body_asked symbol) more cause goes adds))
+        (ran_refused form hooked given {X = X} value_seen inner (λ p. Entered (Of_symbol symbol)) (For_body symbol) turned sources counts asked r why rs (λ p. refl) more cause goes adds))
 
-    -- the code has no plain arrow of that number
-    pub ran_lacking : {X : Type 0} (sources : Sources) (counts : Counts) (asked : List Ask → Type 0) (r : Result Value Stop) (why : CodeFault) → r ≡ Err (stop_by why) → sources ≡ w.sources → CausedBy {A = X} w.counts counts (Err why) → Goes_on w.asked asked []
+    -- the code gives no plain arrow of that number
+    pub ran_plain_not_entered : {X : Type 0} (file : Text) (number : ℕ) (sources : Sources) (counts : Counts) (asked : List Ask → Type 0) (r : Result Value Stop) (why : CodeFault)
+        → r ≡ Err (stop_by why) → f.code ≡ Plain file number → sources ≡ w.sources → CausedBy {A = X} w.counts counts (For_plain file number) (Err why) → Goes_on w.asked asked (asks_answered {A = X} (For_plain file number) (Err why))
         → Ran form hooked (λ p. Unit {0}) value_seen (λ p. entering p called_anew levels (mode_seen mode) (addresses running) (value_seen p (Function f)) (values_seen p arguments)) w r (record w { left = left; sources = sources; counts = counts; asked = asked })
-    ran_lacking {X} sources counts asked r why rs kept cause goes =
-        rw kept (ran_lacks form hooked (λ p. Unit {0}) {X = X} value_seen _ w left counts asked r why rs (spent_turn w.left left took) cause goes
-        (λ p s. calls_add p levels (mode_seen mode) (addresses running) (value_seen p (Function f)) (values_seen p arguments) s))
+    ran_plain_not_entered {X} file number sources counts asked r why rs code kept cause goes =
+        let given : Program → Type 0 = λ p. Unit {0} in
+        let turned : World = record w { left = left } in
+        let v : World = record turned { sources = sources; counts = counts; asked = asked } in
+        let caught : Program → M.Values = λ p. seen_row (captures_in p) (hidden-the_row-Value-0 f.captures) in
+        let fit : Program → Bool = λ p. fits (captures_in p (plain_site file number)) (caught p) in
+        let inner : Program → Doing Running M.Value = λ p. inside_plain p l mode running file number (caught p) (values_seen p arguments) (fit p) in
+        let more : Extends w.sources sources = subst (λ s. Extends w.sources s) (sym kept) (extends_self w.sources) in
+        rw (is, code)
+        (ran_same form hooked given value_seen (λ p s. after (take_turn s) (λ u. ◌>>◌ (noted (Entered (entered_as file number (fit p)))) (inner p))) _ w v r
+        (λ p g past. entering_some p l mode running file number (caught p) f.hidden (values_seen p arguments) (state hooked p past w) (fit p))
+        (ran_then form hooked given nothing value_seen (λ p. take_turn) (λ p u s. after (noted (Entered (entered_as file number (fit p))) s) (λ u. inner p)) w turned v tt r (ran_turn form hooked given w left turn took)
+        (ran_refused form hooked given {X = X} value_seen inner (λ p. Entered (entered_as file number (fit p))) (For_plain file number) turned sources counts asked r why rs (λ p. asked_as file number (fit p)) more cause goes
+        (λ p. inside_adds p l mode running file number (caught p) (values_seen p arguments) (fit p)))))
 
     -- memory runs out where it is entered
     pub ran_entering_lost : (sources : Sources) (counts : Counts) (asked : List Ask → Type 0) (r : Result Value Stop) → r ≡ Err Memory → sources ≡ w.sources → counts ≡ w.counts

@@ -11,7 +11,7 @@ use Rattle.qk_ast.specs.Texts.{Text}
 use Rattle.qk_meaning.specs.Value as M
 use Rattle.qk_meaning.specs.Value.{Fields}
 use Rattle.qk_meaning.specs.Program.{Program}
-use Rattle.qk_meaning.specs.Doing.{Gives, Doing, after, give, ◌>>◌, ◌>>=◌}
+use Rattle.qk_meaning.specs.Doing.{Gives, Doing, after, give, chosen, ◌>>◌, ◌>>=◌}
 use Rattle.qk_meaning.specs.Running.{Running}
 use Rattle.qk_meaning.specs.Setting.{Setting}
 use Rattle.qk_meaning.specs.References as Refs
@@ -37,14 +37,15 @@ use Rattle.qk_meaning.specs.Doing.{each}
 use Rattle.qk_meaning.specs.References.{bound, fields_bound, all_bound}
 use Rattle.qk_meaning.specs.Flow.{looped, repeated, repeated_for, one_turn, then_next}
 use Rattle.qk_meaning.specs.In_order.{fields_in, operand_chained, operands_chained}
-use Rattle.qk_eval.proofs.Forms.{list_is, record_is, template_is, unary_is, chain_is, assign_is, step_is, known_is, arrow_is, markup_parts, jsx_is, while_is, for_is}
+use Rattle.qk_eval.proofs.Forms.{list_is, record_is, template_is, unary_is, chain_is, cond_is, settled, assign_is, step_is, known_is, arrow_is, markup_parts, jsx_is, while_is, for_is}
 use Rattle.qk_ast.specs.declared.Un.{Un}
 use Rattle.qk_ast.specs.declared.AssignOp.{AssignOp}
 use Rattle.qk_ast.specs.declared.Known.{Known}
 use Rattle.qk_ast.specs.declared.Arrow.{Arrow}
 use Rattle.qk_ast.specs.declared.Jsx.{Jsx, out-Jsx}
+use Rattle.qk_ast.specs.declared.Link.{Link}
 use Rattle.qk_ast.specs.declared.Operand.{Operand}
-use Rattle.qk_meaning.specs.Operators.{Answer, Is, unary, stepped, short_text, decides, binary}
+use Rattle.qk_meaning.specs.Operators.{Answer, Is, is_true, unary, stepped, short_text, decides, binary}
 use Rattle.qk_meaning.specs.Making.{made_list, made_record, made_function, filled}
 use Rattle.qk_meaning.specs.Methods.{all_items}
 use Rattle.qk_meaning.specs.References.{old_value, combined, stored, removed}
@@ -57,41 +58,44 @@ use Rattle.qk_ops.specs.Answering.{Gave}
 use Rattle.qk_code.specs.Stops.{stop_on}
 
 module _ (form : Form) (hooked : Bool) (given : Program → Type 0) where
-  module _ (set : Program → Setting) (w v : World) (r : Result Reference Stop) where
-    pub to_list : (items : List Expr) → Ran form hooked given reference_seen (λ p s. after (values_in (set p) items s) (λ vs. ◌>>=◌ (made_list (set p) vs) (λ x. give (Refs.Of x)))) w r v → Ran form hooked given reference_seen (λ p. refer (e.List items) (set p)) w r v
-    to_list items = ran_same form hooked given reference_seen _ _ w v r (λ p g past. list_is (set p) items (state hooked p past w))
+  module _ (set : Program → Setting) (w v : World) (r : Result Value Stop) where
+    pub to_list : (items : List Expr) → Ran form hooked given value_seen (λ p s. after (values_in (set p) items s) (made_list (set p))) w r v → Ran form hooked given value_seen (λ p. value_in (set p) (e.List items)) w r v
+    to_list items = ran_same form hooked given value_seen _ _ w v r (λ p g past. list_is (set p) items (state hooked p past w))
 
-    pub to_record : (fields : List Field) → Ran form hooked given reference_seen (λ p s. after (fields_in (set p) fields s) (λ all. ◌>>=◌ (made_record (set p) all) (λ x. give (Refs.Of x)))) w r v → Ran form hooked given reference_seen (λ p. refer (e.Record fields) (set p)) w r v
-    to_record fields = ran_same form hooked given reference_seen _ _ w v r (λ p g past. record_is (set p) fields (state hooked p past w))
+    pub to_record : (fields : List Field) → Ran form hooked given value_seen (λ p s. after (fields_in (set p) fields s) (made_record (set p))) w r v → Ran form hooked given value_seen (λ p. value_in (set p) (e.Record fields)) w r v
+    to_record fields = ran_same form hooked given value_seen _ _ w v r (λ p g past. record_is (set p) fields (state hooked p past w))
 
-    pub to_template : (parts : List Text) (holes : List Expr) → Ran form hooked given reference_seen (λ p s. after (each (hole_text (set p)) holes s) (λ ts. ◌>>=◌ (answered (short_text (filled parts ts))) (λ x. give (Refs.Of x)))) w r v
-        → Ran form hooked given reference_seen (λ p. refer (e.Template parts holes) (set p)) w r v
-    to_template parts holes = ran_same form hooked given reference_seen _ _ w v r (λ p g past. template_is (set p) parts holes (state hooked p past w))
+    pub to_template : (parts : List Text) (holes : List Expr) → Ran form hooked given value_seen (λ p s. after (each (hole_text (set p)) holes s) (λ ts. answered (short_text (filled parts ts)))) w r v → Ran form hooked given value_seen (λ p. value_in (set p) (e.Template parts holes)) w r v
+    to_template parts holes = ran_same form hooked given value_seen _ _ w v r (λ p g past. template_is (set p) parts holes (state hooked p past w))
 
-    pub to_unary : (operator : Un) (x : Expr) → Ran form hooked given reference_seen (λ p s. after (value_in (set p) x s) (λ y. ◌>>=◌ (answered (unary operator y)) (λ z. give (Refs.Of z)))) w r v → Ran form hooked given reference_seen (λ p. refer (e.Unary operator x) (set p)) w r v
-    to_unary operator x = ran_same form hooked given reference_seen _ _ w v r (λ p g past. unary_is (set p) operator x (state hooked p past w))
+    pub to_unary : (operator : Un) (x : Expr) → Ran form hooked given value_seen (λ p s. after (value_in (set p) x s) (λ y. answered (unary operator y))) w r v → Ran form hooked given value_seen (λ p. value_in (set p) (e.Unary operator x)) w r v
+    to_unary operator x = ran_same form hooked given value_seen _ _ w v r (λ p g past. unary_is (set p) operator x (state hooked p past w))
 
-    pub to_chain : (first : Expr) (rest : List Operand) → Ran form hooked given reference_seen (λ p s. after (value_in (set p) first s) (λ y. ◌>>=◌ (operands_chained (set p) rest y) (λ z. give (Refs.Of z)))) w r v → Ran form hooked given reference_seen (λ p. refer (e.Chain first rest) (set p)) w r v
-    to_chain first rest = ran_same form hooked given reference_seen _ _ w v r (λ p g past. chain_is (set p) first rest (state hooked p past w))
+    pub to_chain : (first : Expr) (rest : List Operand) → Ran form hooked given value_seen (λ p s. after (value_in (set p) first s) (operands_chained (set p) rest)) w r v → Ran form hooked given value_seen (λ p. value_in (set p) (e.Chain first rest)) w r v
+    to_chain first rest = ran_same form hooked given value_seen _ _ w v r (λ p g past. chain_is (set p) first rest (state hooked p past w))
 
-    pub to_assign : (operator : AssignOp) (target x : Expr)
-        → Ran form hooked given reference_seen (λ p s. after (refer target (set p) s) (λ a. ◌>>=◌ (old_value operator (value_of (set p) a)) (λ old. ◌>>=◌ (value_in (set p) x) (λ y. ◌>>=◌ (answered (combined operator old y)) (λ new. ◌>>◌ (stored (set p) a new) (give (Refs.Of new))))))) w r v
-        → Ran form hooked given reference_seen (λ p. refer (e.Assign operator target x) (set p)) w r v
-    to_assign operator target x = ran_same form hooked given reference_seen _ _ w v r (λ p g past. assign_is (set p) operator target x (state hooked p past w))
+    pub to_cond : (c t o : Expr) → Ran form hooked given value_seen (λ p s. after (value_in (set p) c s) (λ x. valued (set p) (chosen (is_true x) (refer t (set p)) (refer o (set p))))) w r v → Ran form hooked given value_seen (λ p. value_in (set p) (e.Cond c t o)) w r v
+    to_cond c t o = ran_same form hooked given value_seen _ _ w v r (λ p g past. cond_is (set p) c t o (state hooked p past w))
 
-    pub to_step : (up : Bool) (target : Expr)
-        → Ran form hooked given reference_seen (λ p s. after (refer target (set p) s) (λ a. ◌>>=◌ (value_of (set p) a) (λ old. ◌>>=◌ (answered (stepped up old)) (λ new. ◌>>◌ (stored (set p) a new) (give (Refs.Of old)))))) w r v
-        → Ran form hooked given reference_seen (λ p. refer (e.Step up target) (set p)) w r v
-    to_step up target = ran_same form hooked given reference_seen _ _ w v r (λ p g past. step_is (set p) up target (state hooked p past w))
+    pub to_assign : (operator : AssignOp) (target x : Expr) → Ran form hooked given value_seen (λ p s. after (refer target (set p) s) (λ a. ◌>>=◌ (old_value operator (value_of (set p) a)) (λ old. ◌>>=◌ (value_in (set p) x) (λ y. ◌>>=◌ (answered (combined operator old y)) (λ new. ◌>>◌ (stored (set p) a new) (give new)))))) w r v → Ran form hooked given value_seen (λ p. value_in (set p) (e.Assign operator target x)) w r v
+    to_assign operator target x = ran_same form hooked given value_seen _ _ w v r (λ p g past. assign_is (set p) operator target x (state hooked p past w))
 
-    pub to_known : (known : Known) (arguments : List Expr) → Ran form hooked given reference_seen (λ p s. after (values_in (set p) arguments s) (λ vs. ◌>>=◌ (known_called (set p) known vs) (λ x. give (Refs.Of x)))) w r v → Ran form hooked given reference_seen (λ p. refer (e.Known known arguments) (set p)) w r v
-    to_known known arguments = ran_same form hooked given reference_seen _ _ w v r (λ p g past. known_is (set p) known arguments (state hooked p past w))
+    pub to_step : (up : Bool) (target : Expr) → Ran form hooked given value_seen (λ p s. after (refer target (set p) s) (λ a. ◌>>=◌ (value_of (set p) a) (λ old. ◌>>=◌ (answered (stepped up old)) (λ new. ◌>>◌ (stored (set p) a new) (give old))))) w r v → Ran form hooked given value_seen (λ p. value_in (set p) (e.Step up target)) w r v
+    to_step up target = ran_same form hooked given value_seen _ _ w v r (λ p g past. step_is (set p) up target (state hooked p past w))
 
-    pub to_arrow : (arrow : Arrow) → Ran form hooked given reference_seen (λ p s. after (made_function (set p) arrow.place s) (λ x. give (Refs.Of x))) w r v → Ran form hooked given reference_seen (λ p. refer (e.Arrow arrow) (set p)) w r v
-    to_arrow arrow = ran_same form hooked given reference_seen _ _ w v r (λ p g past. arrow_is (set p) arrow (state hooked p past w))
+    pub to_known : (known : Known) (arguments : List Expr) → Ran form hooked given value_seen (λ p s. after (values_in (set p) arguments s) (known_called (set p) known)) w r v → Ran form hooked given value_seen (λ p. value_in (set p) (e.Known known arguments)) w r v
+    to_known known arguments = ran_same form hooked given value_seen _ _ w v r (λ p g past. known_is (set p) known arguments (state hooked p past w))
 
-    pub to_jsx : (jsx : Jsx) → Ran form hooked given reference_seen (λ p. markup_parts (set p) (out-Jsx jsx).tag (out-Jsx jsx).attrs (out-Jsx jsx).children) w r v → Ran form hooked given reference_seen (λ p. refer (e.Jsx jsx) (set p)) w r v
-    to_jsx jsx = ran_same form hooked given reference_seen _ _ w v r (λ p g past. jsx_is (set p) jsx (state hooked p past w))
+    pub to_arrow : (arrow : Arrow) → Ran form hooked given value_seen (λ p. made_function (set p) arrow.place) w r v → Ran form hooked given value_seen (λ p. value_in (set p) (e.Arrow arrow)) w r v
+    to_arrow arrow = ran_same form hooked given value_seen _ _ w v r (λ p g past. arrow_is (set p) arrow (state hooked p past w))
+
+    pub to_jsx : (jsx : Jsx) → Ran form hooked given value_seen (λ p. markup_parts (set p) (out-Jsx jsx).tag (out-Jsx jsx).attrs (out-Jsx jsx).children) w r v → Ran form hooked given value_seen (λ p. value_in (set p) (e.Jsx jsx)) w r v
+    to_jsx jsx = ran_same form hooked given value_seen _ _ w v r (λ p g past. jsx_is (set p) jsx (state hooked p past w))
+
+  -- what is no name and no chain of postfix forms stands for its value
+  pub to_settled : (set : Program → Setting) (w v : World) (r : Result Reference Stop) (x : Expr) → ((name : Text) → x ≡ e.Name name → ⊥) → ((head : Expr) (links : List Link) → x ≡ e.Post head links → ⊥)
+      → Ran form hooked given reference_seen (λ p s. after (value_in (set p) x s) (λ y. give (Refs.Of y))) w r v → Ran form hooked given reference_seen (λ p. refer x (set p)) w r v
+  to_settled set w v r x name post = ran_same form hooked given reference_seen _ _ w v r (λ p g past. settled (set p) x (state hooked p past w) name post)
 
   module _ (set : Program → Setting) (w v : World) (r : Result Flow Stop) where
     pub to_for : (name : Text) (x : Expr) (statements : List Stmt) → Ran form hooked given flow_seen (λ p s. after (value_in (set p) x s) (λ y. ◌>>=◌ (all_items y) (each_ran (set p) name statements))) w r v → Ran form hooked given flow_seen (λ p. ran (st.ForOf name x statements) (set p)) w r v

@@ -14,7 +14,7 @@ use Rattle.qk_meaning.specs.Doing.{Doing, ◌>>=◌, ◌>>◌, give, chosen, eac
 use Rattle.qk_meaning.specs.Running.{Running, Pure, answered, assigned, unless_fault}
 use Rattle.qk_meaning.specs.Laws_of_code.{Adds}
 use Rattle.qk_meaning.specs.Setting.{Setting, setting_of, called_anew}
-use Rattle.qk_meaning.specs.References.{Reference, Of, value_of, valued, old_value, combined, bound, fields_bound, all_bound, stored, removed}
+use Rattle.qk_meaning.specs.References.{Reference, value_of, valued, old_value, combined, bound, fields_bound, all_bound, stored, removed}
 use Rattle.qk_meaning.specs.Calls.{Callee, callee, call, is_qrl, known_called}
 use Rattle.qk_meaning.specs.Operators.{Answer, text_of, binary, decides, stepped}
 use Rattle.qk_meaning.specs.Making.{made, made_list, made_record, made_markup}
@@ -110,10 +110,6 @@ module _ (func : Func) (mode : Mode) (running : List Addr) (levels : ℕ) (p : P
   pub answer_adds : {A : Type 0} (a : Answer A) → Adding A (answered a) (answered a)
   answer_adds a = L.answers Adding (laws (captures_in p)) a
 
-  -- a value is given, and is what the expression stands for
-  pub of_adds : (m : Doing Running Value) → Adding Value m m → Adding Reference (◌>>=◌ m (λ v. give (Of v))) (◌>>=◌ m (λ v. give (Of v)))
-  of_adds m adds = bind m (λ v. give (Of v)) adds (λ v. gives (Of v))
-
   pub made_list_adds : (all : List Value) → Adding Value (made_list here all) (made_list here all)
   made_list_adds all = M.made_list_lem Adding (laws (captures_in p)) sayings here (named (captures_in p)) here.enter here.computed enters computeds all
 
@@ -178,43 +174,42 @@ module _ (func : Func) (mode : Mode) (running : List Addr) (levels : ℕ) (p : P
   markup_adds shown fields children =
       bind (unless_fault (markup_fault shown fields children)) (λ u. made here (element shown fields children)) (L.unless_faults Adding (laws (captures_in p)) (markup_fault shown fields children)) (λ u. made_adds (element shown fields children))
 
-  abbrev pub behind_attributes : Shown → List Expr → Fields → Doing Running Reference
-  behind_attributes shown xs fields = ◌>>=◌ (values_in here xs) (λ vs. ◌>>=◌ (markup_made here shown fields (packed vs)) (λ v. give (Of v)))
+  abbrev pub behind_attributes : Shown → List Expr → Fields → Doing Running Value
+  behind_attributes shown xs fields = ◌>>=◌ (values_in here xs) (λ vs. markup_made here shown fields (packed vs))
 
-  pub children_add : (shown : Shown) (fields : Fields) (xs : List Expr) → Adding Reference (behind_attributes shown xs fields) (behind_attributes shown xs fields)
-  children_add shown fields xs =
-      bind (values_in here xs) (λ vs. ◌>>=◌ (markup_made here shown fields (packed vs)) (λ v. give (Of v))) (values_add xs) (λ vs. of_adds (markup_made here shown fields (packed vs)) (markup_adds shown fields (packed vs)))
+  pub children_add : (shown : Shown) (fields : Fields) (xs : List Expr) → Adding Value (behind_attributes shown xs fields) (behind_attributes shown xs fields)
+  children_add shown fields xs = bind (values_in here xs) (λ vs. markup_made here shown fields (packed vs)) (values_add xs) (λ vs. markup_adds shown fields (packed vs))
 
-  pub jsx_adds : (fs : List Field) (shown : Shown) (xs : List Expr) → Adding Reference (◌>>=◌ (fields_in here fs) (behind_attributes shown xs)) (◌>>=◌ (fields_in here fs) (behind_attributes shown xs))
+  pub jsx_adds : (fs : List Field) (shown : Shown) (xs : List Expr) → Adding Value (◌>>=◌ (fields_in here fs) (behind_attributes shown xs)) (◌>>=◌ (fields_in here fs) (behind_attributes shown xs))
   jsx_adds fs shown xs = bind (fields_in here fs) (behind_attributes shown xs) (fields_add fs) (λ fields. children_add shown fields xs)
 
   -- what comes behind the target of an assignment, and behind the old value
-  abbrev pub behind_old : AssignOp → Expr → Reference → Value → Doing Running Reference
-  behind_old op x r old = ◌>>=◌ (value_in here x) (λ v. ◌>>=◌ (answered (combined op old v)) (λ new. ◌>>◌ (stored here r new) (give (Of new))))
+  abbrev pub behind_old : AssignOp → Expr → Reference → Value → Doing Running Value
+  behind_old op x r old = ◌>>=◌ (value_in here x) (λ v. ◌>>=◌ (answered (combined op old v)) (λ new. ◌>>◌ (stored here r new) (give new)))
 
-  abbrev pub behind_target : AssignOp → Expr → Reference → Doing Running Reference
+  abbrev pub behind_target : AssignOp → Expr → Reference → Doing Running Value
   behind_target op x r = ◌>>=◌ (old_value op (value_of here r)) (behind_old op x r)
 
-  pub store_adds : (r : Reference) (v w : Value) → Adding Reference (◌>>◌ (stored here r v) (give (Of w))) (◌>>◌ (stored here r v) (give (Of w)))
-  store_adds r v w = bind (stored here r v) (λ u. give (Of w)) (stored_adds r v) (λ u. gives (Of w))
+  pub store_adds : (r : Reference) (v w : Value) → Adding Value (◌>>◌ (stored here r v) (give w)) (◌>>◌ (stored here r v) (give w))
+  store_adds r v w = bind (stored here r v) (λ u. give w) (stored_adds r v) (λ u. gives w)
 
-  pub combined_adds : (op : AssignOp) (r : Reference) (old v : Value) → Adding Reference (◌>>=◌ (answered (combined op old v)) (λ new. ◌>>◌ (stored here r new) (give (Of new)))) (◌>>=◌ (answered (combined op old v)) (λ new. ◌>>◌ (stored here r new) (give (Of new))))
-  combined_adds op r old v = bind (answered (combined op old v)) (λ new. ◌>>◌ (stored here r new) (give (Of new))) (answer_adds (combined op old v)) (λ new. store_adds r new new)
+  pub combined_adds : (op : AssignOp) (r : Reference) (old v : Value) → Adding Value (◌>>=◌ (answered (combined op old v)) (λ new. ◌>>◌ (stored here r new) (give new))) (◌>>=◌ (answered (combined op old v)) (λ new. ◌>>◌ (stored here r new) (give new)))
+  combined_adds op r old v = bind (answered (combined op old v)) (λ new. ◌>>◌ (stored here r new) (give new)) (answer_adds (combined op old v)) (λ new. store_adds r new new)
 
-  pub behind_old_adds : (op : AssignOp) (x : Expr) (r : Reference) (old : Value) → Adding Reference (behind_old op x r old) (behind_old op x r old)
-  behind_old_adds op x r old = bind (value_in here x) (λ v. ◌>>=◌ (answered (combined op old v)) (λ new. ◌>>◌ (stored here r new) (give (Of new)))) (value_adds x) (λ v. combined_adds op r old v)
+  pub behind_old_adds : (op : AssignOp) (x : Expr) (r : Reference) (old : Value) → Adding Value (behind_old op x r old) (behind_old op x r old)
+  behind_old_adds op x r old = bind (value_in here x) (λ v. ◌>>=◌ (answered (combined op old v)) (λ new. ◌>>◌ (stored here r new) (give new))) (value_adds x) (λ v. combined_adds op r old v)
 
-  pub behind_target_adds : (op : AssignOp) (x : Expr) (r : Reference) → Adding Reference (behind_target op x r) (behind_target op x r)
+  pub behind_target_adds : (op : AssignOp) (x : Expr) (r : Reference) → Adding Value (behind_target op x r) (behind_target op x r)
   behind_target_adds op x r = bind (old_value op (value_of here r)) (behind_old op x r) (old_adds op r) (λ old. behind_old_adds op x r old)
 
   -- what comes behind the target of a step
-  abbrev pub stepped_from : Bool → Reference → Value → Doing Running Reference
-  stepped_from up r old = ◌>>=◌ (answered (stepped up old)) (λ new. ◌>>◌ (stored here r new) (give (Of old)))
+  abbrev pub stepped_from : Bool → Reference → Value → Doing Running Value
+  stepped_from up r old = ◌>>=◌ (answered (stepped up old)) (λ new. ◌>>◌ (stored here r new) (give old))
 
-  pub stepped_adds : (up : Bool) (r : Reference) (old : Value) → Adding Reference (stepped_from up r old) (stepped_from up r old)
-  stepped_adds up r old = bind (answered (stepped up old)) (λ new. ◌>>◌ (stored here r new) (give (Of old))) (answer_adds (stepped up old)) (λ new. store_adds r new old)
+  pub stepped_adds : (up : Bool) (r : Reference) (old : Value) → Adding Value (stepped_from up r old) (stepped_from up r old)
+  stepped_adds up r old = bind (answered (stepped up old)) (λ new. ◌>>◌ (stored here r new) (give old)) (answer_adds (stepped up old)) (λ new. store_adds r new old)
 
-  pub step_adds : (up : Bool) (r : Reference) → Adding Reference (◌>>=◌ (value_of here r) (stepped_from up r)) (◌>>=◌ (value_of here r) (stepped_from up r))
+  pub step_adds : (up : Bool) (r : Reference) → Adding Value (◌>>=◌ (value_of here r) (stepped_from up r)) (◌>>=◌ (value_of here r) (stepped_from up r))
   step_adds up r = bind (value_of here r) (stepped_from up r) (reference_adds r) (λ old. stepped_adds up r old)
 
   pub statement_adds : (s : Stmt) → Adding Flow (ran s here) (ran s here)

@@ -1,13 +1,15 @@
 -- Steps that need neither code nor host: parts and holes, values that are kept, names that are opened, the plain arrows of a root.
 use Rattle.std.proofs.Math.Seq.{drop-cons}
 use Rattle.std.specs.Prelude.{map, OnOk, IfOk}
-use Rattle.std.proofs.Common.{◌≡◌, ◌<◌, ◌≤◌, ◌+◌, min, add-one, ℕ, suc, zero, Bool, true, false, List, [], ◌∷◌, ◌++◌, length, get_or, drop, Result, Ok, Err, Option, Some, None, refl, ap, ◌∙◌, sym, subst, arith}
+use Rattle.std.proofs.Common.{◌≡◌, ◌<◌, ◌≤◌, ◌+◌, min, add-one, ℕ, suc, zero, Bool, true, false, List, [], ◌∷◌, ◌++◌, length, get_or, drop, Result, Ok, Err, Option, Some, None, refl, ap, ◌∙◌, sym, subst, arith, nat_le, length-append}
 use Rattle.std.proofs.lemmas.List.{append_assoc, append-nil, at_drop_all}
 use Rattle.qk_ast.specs.Names.{body_names, patterns_names}
 use Rattle.qk_ast.specs.Texts.{Text}
 use Rattle.qk_meaning.specs.Value as M
 use Rattle.qk_meaning.specs.Value.{Fields, Undefined, field}
 use Rattle.qk_meaning.specs.Making.{filled}
+use Rattle.qk_meaning.specs.Fault.{TextTooLong}
+use Rattle.qk_meaning.specs.Operators.{Answer, Is, Fails, short_text}
 use Rattle.qk_meaning.specs.Methods.{kept}
 use Rattle.qk_meaning.specs.Flow.{opened}
 use Rattle.qk_meaning.specs.Setting.{has_tracker}
@@ -43,6 +45,16 @@ if_ok (Err e) k h = h
 
 pub all_filled : (before : Text) (parts holes : List Text) (i : ℕ) → length parts ≤ i → before ++ filled (drop i parts) (drop i holes) ≡ filled parts holes → before ≡ filled parts holes
 all_filled before parts holes i le is = sym (append-nil before) ∙ ap {A = List Text} (λ ps. before ++ filled ps (drop i holes)) (sym (past parts i le)) ∙ is
+
+too_long : (t : Text) → 1048576 < length t → short_text t ≡ Fails TextTooLong
+too_long t h = ap (λ b. elim b as (λ x. Answer M.Value) [ true ↦ Is (M.Words t) | false ↦ Fails TextTooLong ]) long
+  where
+    long : nat_le (length t) 1048576 ≡ false
+    long = grind (arith, h)
+
+-- a text that is too long with and without what would come
+pub long_filled : (before rest all : Text) → 1048576 < length before → before ++ rest ≡ all → short_text before ≡ short_text all
+long_filled before rest all h is = too_long before h ∙ sym (too_long all (subst (λ t. 1048576 < length t) is (omega (arith, h, length-append before rest))))
 
 module _ (parts holes : List Text) (i : ℕ) (part : Text) (lt : i < length parts) (is : part ≡ get_or parts i part) where
   abbrev after : Text

@@ -36,7 +36,9 @@ use Rattle.qk_code.specs.declared.stop.Stop.TheVariants.{Memory}
 use Rattle.qk_code.specs.Stops.{stop_by}
 use Rattle.qk_code.specs.Sources.{Sources, Extends}
 use Rattle.qk_code.specs.Counts.{Counts, CausedBy}
-use Rattle.qk_code.specs.Asked.{Ask, For_root, Goes_on, asks_answered}
+use Rattle.qk_code.specs.declared.ask.Ask.{Ask}
+use Rattle.qk_code.specs.declared.ask.Ask.TheVariants.{Root as For_root}
+use Rattle.qk_code.specs.Asked.{Goes_on, asks_answered}
 use Rattle.qk_code.specs.Standing.{code_of, framework_in, Knows, Means, MeansIn}
 use Rattle.qk_code.specs.World.{World, state}
 use Rattle.qk_code.specs.Ran.{Ran}
@@ -160,11 +162,11 @@ module _ (form : Form) (hooked : Bool) (given : Program → Type 0) where
 
     -- the code gave nothing; whatever the name means, its use is told
     pub ran_tag_refused : {X : Type 0} (w : World) (sources : Sources) (counts : Counts) (asked : List Ask → Type 0) (file name : Text) (r : Result ElemTag Stop) (why : CodeFault)
-        → r ≡ Err (stop_by why) → file ≡ func.file → same_text name (codes "Slot") ≡ false → Extends w.sources sources → CausedBy {A = X} w.counts counts (Err why) → Goes_on w.asked asked (asks_answered {A = X} (For_root file name) (Err why))
+        → r ≡ Err (stop_by why) → file ≡ func.file → same_text name (codes "Slot") ≡ false → Extends w.sources sources → CausedBy {A = X} w.counts counts (For_root file name) (Err why) → Goes_on w.asked asked (asks_answered {A = X} (For_root file name) (Err why))
         → Ran form hooked given shown_seen (λ p. tag_shown (setting_so func mode running levels p) (t.Component name)) w r (record w { sources = sources; counts = counts; asked = asked })
     ran_tag_refused {X} w sources counts asked file name r why rs here not more cause goes =
         ran_same form hooked given shown_seen _ _ w (record w { sources = sources; counts = counts; asked = asked }) r (λ p g past. component_is (setting_so func mode running levels p) name (state hooked p past w) not)
-        (ran_refused form hooked given {X = X} shown_seen (λ p. give (root_shown (p.root func.file name))) (Used func.file name) (For_root func.file name) w sources counts asked r why rs (root_asked func.file name) more cause (subst (λ f. Goes_on w.asked asked (asks_answered {A = X} (For_root f name) (Err why))) here goes) (λ p. gives (root_shown (p.root func.file name))))
+        (ran_refused form hooked given {X = X} shown_seen (λ p. give (root_shown (p.root func.file name))) (λ p. Used func.file name) (For_root file name) w sources counts asked r why rs (λ p. (sym here, refl)) more cause goes (λ p. gives (root_shown (p.root func.file name))))
 
   -- ---- what a member calls
 
@@ -228,9 +230,9 @@ module _ (form : Form) (hooked : Bool) (func : Func) (mode : Mode) (running : Li
 
   -- the code gave nothing for a name that is none of the framework
   pub ran_root_refused : {X : Type 0} (w : World) (sources : Sources) (counts : Counts) (asked : List Ask → Type 0) (file name : Text) (r : Result Reference Stop) (why : CodeFault)
-      → r ≡ Err (stop_by why) → file ≡ func.file → framework_in func.imports.entries name ≡ None → Extends w.sources sources → CausedBy {A = X} w.counts counts (Err why) → Goes_on w.asked asked (asks_answered {A = X} (For_root file name) (Err why))
+      → r ≡ Err (stop_by why) → file ≡ func.file → framework_in func.imports.entries name ≡ None → Extends w.sources sources → CausedBy {A = X} w.counts counts (For_root file name) (Err why) → Goes_on w.asked asked (asks_answered {A = X} (For_root file name) (Err why))
       → Ran form hooked here_known reference_seen (λ p. root_used (setting_so func mode running levels p) name) w r (record w { sources = sources; counts = counts; asked = asked })
   ran_root_refused {X} w sources counts asked file name r why rs here none more cause goes =
       ran_same form hooked here_known reference_seen _ _ w (record w { sources = sources; counts = counts; asked = asked }) r
       (λ p k past. used_is (setting_so func mode running levels p) name (state hooked p past w) (told_of_others (setting_so func mode running levels p) name (p.root func.file name) (state hooked p past w) (λ other. k.others name other none)))
-      (ran_refused form hooked here_known {X = X} reference_seen (λ p. give (root_reference (p.root func.file name))) (Used func.file name) (For_root func.file name) w sources counts asked r why rs (root_asked func.file name) more cause (subst (λ f. Goes_on w.asked asked (asks_answered {A = X} (For_root f name) (Err why))) here goes) (λ p. gives (root_reference (p.root func.file name))))
+      (ran_refused form hooked here_known {X = X} reference_seen (λ p. give (root_reference (p.root func.file name))) (λ p. Used func.file name) (For_root file name) w sources counts asked r why rs (λ p. (sym here, refl)) more cause goes (λ p. gives (root_reference (p.root func.file name))))

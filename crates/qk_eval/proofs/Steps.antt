@@ -56,6 +56,7 @@ use Rattle.qk_code.specs.declared.mode.Mode.{Mode}
 use Rattle.qk_code.specs.declared.stop.Stop.{Stop}
 use Rattle.qk_code.specs.declared.stop.Stop.TheVariants.{Fault, Ended, Code, Memory}
 use Rattle.qk_code.specs.Modes.{mode_seen}
+use Rattle.qk_code.specs.declared.ask.Ask.{Ask}
 use Rattle.qk_code.specs.Asked.{Goes_on, asks_in}
 use Rattle.qk_code.specs.World.{World, Spent, state, heard_in}
 use Rattle.qk_code.specs.Sources.{Extends, reading}
@@ -69,7 +70,7 @@ use Rattle.qk_making.proofs.Acting.{heard_reads, asks_reads, logs_reads, prints_
 use Rattle.qk_eval.specs.Placing.{setting_so, addresses}
 use Rattle.qk_eval.specs.Seeing.{value_seen, values_seen, reference_seen, flow_seen, callee_seen, nothing}
 use Rattle.qk_eval.specs.Lists.{call_made}
-use Rattle.qk_eval.proofs.Forms.{post_is, link_call_is, block_body_is, value_body_is, cond_is, if_is, block_is}
+use Rattle.qk_eval.proofs.Forms.{post_is, link_call_is, block_body_is, value_body_is, if_is, block_is}
 use Rattle.qk_eval.proofs.Growing.{gives, bind}
 
 pub function_is_one : (p : Program) (f : Fun) → is_function (value_seen p (Function f)) ≡ true
@@ -121,10 +122,6 @@ module _ (form : Form) (hooked : Bool) (given : Program → Type 0) where
 
     pub to_value : (r : Result Value Stop) (body : Body) (x x' : Expr) → body ≡ b.Value x → x' ≡ x → Ran form hooked given value_seen (λ p. value_in (set p) x') w r v → Ran form hooked given value_seen (λ p. body_value body (set p)) w r v
     to_value r body x x' is same h = rw is (ran_same form hooked given value_seen _ _ w v r (λ p g past. ap (λ y. value_in (set p) y (state hooked p past w)) same ∙ value_body_is (set p) x (state hooked p past w)) h)
-
-    pub to_cond : (r : Result Reference Stop) (c t o : Expr) → Ran form hooked given reference_seen (λ p s. after (value_in (set p) c s) (λ x s. after (valued (set p) (chosen (is_true x) (refer t (set p)) (refer o (set p))) s) (λ y. give (Refs.Of y)))) w r v
-        → Ran form hooked given reference_seen (λ p. refer (e.Cond c t o) (set p)) w r v
-    to_cond r c t o = ran_same form hooked given reference_seen _ _ w v r (λ p g past. cond_is (set p) c t o (state hooked p past w))
 
     pub ran_chosen : (r : Result Value Stop) (x : Value) (t o : Expr) (q : Bool) → ((captured : _) → q ≡ is_true (seen captured x)) → Ran form hooked given value_seen (λ p. value_in (set p) (cond q t o)) w r v
         → Ran form hooked given value_seen (λ p. valued (set p) (chosen (is_true (value_seen p x)) (refer t (set p)) (refer o (set p)))) w r v
@@ -284,11 +281,12 @@ module _ (form : Form) (hooked : Bool) (given : Program → Type 0) where
   ran_any_scope {A} {B} seen m w v scope r why is h =
       rw is (by (rw is at h))
     where
-      agree : (seen : A → B) (why : Stop) (outcome : Outcome Running B) (s : Running) (locals : Fields) → Agrees seen outcome (Err why) s → Agrees seen outcome (Err why) (record s { locals = locals })
-      agree seen (Fault f) outcome s locals a = record { locals = a.locals; hooking = a.hooking; is = a.is }
-      agree seen Ended outcome s locals a = record { locals = a.locals; hooking = a.hooking; is = a.is }
-      agree seen (Code why) outcome s locals a = record { told = a.told; trace = a.trace; log = a.log; lines = a.lines; made = a.made; kinds = a.kinds }
-      agree seen Memory outcome s locals a = tt
+      agree : (seen : A → B) (why : Stop) (outcome : Outcome Running B) (s : Running) (locals : Fields) (asks : List Ask) → Agrees seen asks outcome (Err why) s → Agrees seen asks outcome (Err why) (record s { locals = locals })
+      agree seen (Fault f) outcome s locals asks a = record { locals = a.locals; hooking = a.hooking; is = a.is }
+      agree seen Ended outcome s locals asks a = record { locals = a.locals; hooking = a.hooking; is = a.is }
+      agree seen (Code why) outcome s locals asks a =
+          record { ask = a.ask; only = a.only; next = a.next; asked = a.asked; adds = record { told = a.adds.told; trace = a.adds.trace; log = a.adds.log; lines = a.adds.lines; made = a.adds.made; kinds = a.adds.kinds } }
+      agree seen Memory outcome s locals asks a = tt
 
       by : Ran form hooked given seen m w (Err why) v → Ran form hooked given seen m w (Err why) (record v { scope = scope })
       by h =
@@ -301,7 +299,7 @@ module _ (form : Form) (hooked : Bool) (given : Program → Type 0) where
             unanswered = h.unanswered;
             heard = h.heard;
             asked = h.asked;
-            agrees = λ files more g past. agree (seen (reading form files)) why _ _ (scope (reading form files)) (h.agrees files more g past);
+            agrees = λ files more g past. agree (seen (reading form files)) why _ _ (scope (reading form files)) _ (h.agrees files more g past);
           }
 
   -- the same result by its name

@@ -6,7 +6,7 @@ use Rattle.qk_heap.specs.Told.{Told}
 use Rattle.qk_heap.specs.Seen.{heap_seen}
 use Rattle.qk_code.specs.Sources.{Sources}
 use Rattle.qk_code.specs.Counts.{Counts}
-use Rattle.qk_code.specs.Asked.{Ask}
+use Rattle.qk_code.specs.declared.ask.Ask.{Ask}
 use Rattle.qk_code.specs.World.{World, world}
 use Rattle.qk_eval.specs.declared.machine.Machine.{Machine}
 use Rattle.qk_environment.specs.declared.scope.Named.{Named}

@@ -1,4 +1,7 @@
 //! The cycle of evaluation. Each function's contract says that what it did has the meaning that the definition gives.
+//!
+//! What nests in code nests on the machine's stack. So functions that evaluate parts are `inline(never)`: what one form needs would else lie in the frame of
+//! every form around it.
 
 ghost use Rattle.std.specs.Prelude.{[], None};
 ghost use Rattle.qk_ast.specs.declared.Expr.TheVariants as expr;
@@ -30,7 +33,7 @@ use crate::names::{captured_scope, open_own};
 use crate::pieces::{combined, filled, kept, one_function, only, symbol_and_names, value_at};
 use crate::reference::Reference;
 use crate::running::{is_under_way, with_first};
-use crate::stepping::{call_dollar, call_mark, named, refer_arrow, remove, shown, store};
+use crate::stepping::{arrow_value, call_dollar, call_mark, named, remove, shown, store};
 use qk_acts::{
     Look, Method, call_known, items_of, join, look_up, method_of, pop, push, slice, splice,
     tell_read, text_method,
@@ -40,7 +43,7 @@ use qk_code::{Code, Func, HookAnswer, HookKind, Host, Mode, Part, Stop};
 use qk_environment::Scope;
 use qk_making::{make_lifted, make_list, make_markup, make_record};
 use qk_ops::{binary, decides, short_text, stepped, text_of, truthy, unary};
-use qk_shared::{Builder, Text};
+use qk_shared::{Builder, List, Shared, Text};
 use qk_value::{Addr, Fault, Fun, FunCode, Value};
 
 /// The value of an expression.
@@ -55,11 +58,89 @@ fn value<C: Code, H: Host>(
 ) -> Result<Value, Stop>
     ensures { Ran C.form here.now.hooked (known here.now) value_seen (λ p. let place = setting here.now p in in_order.value_in place e.now) (standing (C.sources code.old) (C.counts code.old) (C.asked code.old) machine.old scope.old.names.items (H.stands_for host.old)) result (standing (C.sources code.new) (C.counts code.new) (C.asked code.new) machine.new scope.new.names.items (H.stands_for host.new)) }
 {
-    let r = refer(e, here, scope, machine, code, host)?;
+    match e {
+        Expr::Undefined => Ok(Value::Undefined),
+        Expr::Null => Ok(Value::Null),
+        Expr::Bool(b) => Ok(Value::Bool(*b)),
+        Expr::Int(n) => {
+            let n = *n;
+            Ok(Value::Int(n))
+        }
+        Expr::Text(t) => Ok(Value::Text(t.share()?)),
+        Expr::Name(name) => name_value(name, here, scope, machine, code, host),
+        Expr::List(items) => list_value(items.as_slice(), here, scope, machine, code, host),
+        Expr::Record(fields) => record_value(fields.as_slice(), here, scope, machine, code, host),
+        Expr::Template(parts, holes) => {
+            template_value(parts, holes, here, scope, machine, code, host)
+        }
+        Expr::Unary(operator, e) => {
+            unary_value(*operator, e.get(), here, scope, machine, code, host)
+        }
+        Expr::Chain(first, rest) => {
+            chain_value(first, rest.as_slice(), here, scope, machine, code, host)
+        }
+        Expr::Cond(condition, then, otherwise) => {
+            cond_value(condition, then, otherwise, here, scope, machine, code, host)
+        }
+        Expr::Post(head, links) => {
+            post_value(head, links.as_slice(), here, scope, machine, code, host)
+        }
+        Expr::Assign(operator, target, e) => {
+            assign(*operator, target, e, here, scope, machine, code, host)
+        }
+        Expr::Step(up, target) => step(*up, target.get(), here, scope, machine, code, host),
+        Expr::Known(known, arguments) => {
+            known_value(
+                *known,
+                arguments.as_slice(),
+                here,
+                scope,
+                machine,
+                code,
+                host,
+            )
+        }
+        Expr::Arrow(arrow) => arrow_value(arrow.get(), here, scope, machine, code, host),
+        Expr::Jsx(jsx) => jsx_value(jsx.get(), here, scope, machine, code, host),
+    }
+}
+
+/// The value of a name.
+#[inline(never)]
+#[cycle(evaluate)]
+fn name_value<C: Code, H: Host>(
+    name: &Text,
+    here: &Here<'_>,
+    scope: &mut Scope,
+    machine: &mut Machine,
+    code: &mut C,
+    host: &mut H,
+) -> Result<Value, Stop>
+    ensures { Ran C.form here.now.hooked (known here.now) value_seen (λ p. let place = setting here.now p in in_order.value_in place (Expr.Name name.now)) (standing (C.sources code.old) (C.counts code.old) (C.asked code.old) machine.old scope.old.names.items (H.stands_for host.old)) result (standing (C.sources code.new) (C.counts code.new) (C.asked code.new) machine.new scope.new.names.items (H.stands_for host.new)) }
+{
+    let r = named(name, here, scope, machine, code, host)?;
     value_of(r, here, scope, machine, code, host)
 }
 
-/// What an expression stands for.
+/// The value of a chain of postfix forms.
+#[inline(never)]
+#[cycle(evaluate)]
+fn post_value<C: Code, H: Host>(
+    head: &Shared<Expr>,
+    links: &[Link],
+    here: &Here<'_>,
+    scope: &mut Scope,
+    machine: &mut Machine,
+    code: &mut C,
+    host: &mut H,
+) -> Result<Value, Stop>
+    ensures { Ran C.form here.now.hooked (known here.now) value_seen (λ p. let place = setting here.now p in in_order.value_in place (Expr.Post head.now links.now)) (standing (C.sources code.old) (C.counts code.old) (C.asked code.old) machine.old scope.old.names.items (H.stands_for host.old)) result (standing (C.sources code.new) (C.counts code.new) (C.asked code.new) machine.new scope.new.names.items (H.stands_for host.new)) }
+{
+    let r = refer_post(head, links, here, scope, machine, code, host)?;
+    value_of(r, here, scope, machine, code, host)
+}
+
+/// What an expression stands for: a name or a chain of postfix forms may stand for something to be written, every other form for its value.
 #[cycle(evaluate)]
 fn refer<C: Code, H: Host>(
     e: &Expr,
@@ -72,123 +153,53 @@ fn refer<C: Code, H: Host>(
     ensures { Ran C.form here.now.hooked (known here.now) reference_seen (λ p. let place = setting here.now p in evaluation.refer e.now place) (standing (C.sources code.old) (C.counts code.old) (C.asked code.old) machine.old scope.old.names.items (H.stands_for host.old)) result (standing (C.sources code.new) (C.counts code.new) (C.asked code.new) machine.new scope.new.names.items (H.stands_for host.new)) }
 {
     match e {
-        Expr::Undefined => Ok(Reference::Of(Value::Undefined)),
-        Expr::Null => Ok(Reference::Of(Value::Null)),
-        Expr::Bool(b) => Ok(Reference::Of(Value::Bool(*b))),
-        Expr::Int(n) => {
-            let n = *n;
-            Ok(Reference::Of(Value::Int(n)))
-        }
-        Expr::Text(t) => Ok(Reference::Of(Value::Text(t.share()?))),
         Expr::Name(name) => named(name, here, scope, machine, code, host),
-        Expr::List(items) => refer_list(items.as_slice(), here, scope, machine, code, host),
-        Expr::Record(fields) => refer_record(fields.as_slice(), here, scope, machine, code, host),
-        Expr::Template(parts, holes) => refer_template(
-            parts.as_slice(),
-            holes.as_slice(),
-            here,
-            scope,
-            machine,
-            code,
-            host,
-        ),
-        Expr::Unary(operator, e) => refer_unary(
-            *operator,
-            e.get(),
-            here,
-            scope,
-            machine,
-            code,
-            host,
-        ),
-        Expr::Chain(first, rest) => refer_chain(
-            first.get(),
-            rest.as_slice(),
-            here,
-            scope,
-            machine,
-            code,
-            host,
-        ),
-        Expr::Cond(condition, then, otherwise) => refer_cond(
-            condition.get(),
-            then.get(),
-            otherwise.get(),
-            here,
-            scope,
-            machine,
-            code,
-            host,
-        ),
-        Expr::Post(head, links) => refer_post(
-            head.get(),
-            links.as_slice(),
-            here,
-            scope,
-            machine,
-            code,
-            host,
-        ),
-        Expr::Assign(operator, target, e) => refer_assign(
-            *operator,
-            target.get(),
-            e.get(),
-            here,
-            scope,
-            machine,
-            code,
-            host,
-        ),
-        Expr::Step(up, target) => refer_step(*up, target.get(), here, scope, machine, code, host),
-        Expr::Known(known, arguments) => refer_known(
-            *known,
-            arguments.as_slice(),
-            here,
-            scope,
-            machine,
-            code,
-            host,
-        ),
-        Expr::Arrow(arrow) => refer_arrow(arrow.get(), here, scope, machine, code, host),
-        Expr::Jsx(jsx) => refer_jsx(jsx.get(), here, scope, machine, code, host),
+        Expr::Post(head, links) => {
+            refer_post(head, links.as_slice(), here, scope, machine, code, host)
+        }
+        _ => {
+            let v = value(e, here, scope, machine, code, host)?;
+            Ok(Reference::Of(v))
+        }
     }
 }
 
-/// A list.
+/// The value of a list.
+#[inline(never)]
 #[cycle(evaluate)]
-fn refer_list<C: Code, H: Host>(
+fn list_value<C: Code, H: Host>(
     items: &[Expr],
     here: &Here<'_>,
     scope: &mut Scope,
     machine: &mut Machine,
     code: &mut C,
     host: &mut H,
-) -> Result<Reference, Stop>
-    ensures { Ran C.form here.now.hooked (known here.now) reference_seen (λ p. let place = setting here.now p in evaluation.refer (Expr.List items.now) place) (standing (C.sources code.old) (C.counts code.old) (C.asked code.old) machine.old scope.old.names.items (H.stands_for host.old)) result (standing (C.sources code.new) (C.counts code.new) (C.asked code.new) machine.new scope.new.names.items (H.stands_for host.new)) }
+) -> Result<Value, Stop>
+    ensures { Ran C.form here.now.hooked (known here.now) value_seen (λ p. let place = setting here.now p in in_order.value_in place (Expr.List items.now)) (standing (C.sources code.old) (C.counts code.old) (C.asked code.old) machine.old scope.old.names.items (H.stands_for host.old)) result (standing (C.sources code.new) (C.counts code.new) (C.asked code.new) machine.new scope.new.names.items (H.stands_for host.new)) }
 {
     let all = values(items, here, scope, machine, code, host)?;
-    let v = make_list(machine.alloc, here.mode, &mut machine.heap, all)?;
-    Ok(Reference::Of(v))
+    make_list(machine.alloc, here.mode, &mut machine.heap, all)
 }
 
-/// A record.
+/// The value of a record.
+#[inline(never)]
 #[cycle(evaluate)]
-fn refer_record<C: Code, H: Host>(
+fn record_value<C: Code, H: Host>(
     fields: &[Field],
     here: &Here<'_>,
     scope: &mut Scope,
     machine: &mut Machine,
     code: &mut C,
     host: &mut H,
-) -> Result<Reference, Stop>
-    ensures { Ran C.form here.now.hooked (known here.now) reference_seen (λ p. let place = setting here.now p in evaluation.refer (Expr.Record fields.now) place) (standing (C.sources code.old) (C.counts code.old) (C.asked code.old) machine.old scope.old.names.items (H.stands_for host.old)) result (standing (C.sources code.new) (C.counts code.new) (C.asked code.new) machine.new scope.new.names.items (H.stands_for host.new)) }
+) -> Result<Value, Stop>
+    ensures { Ran C.form here.now.hooked (known here.now) value_seen (λ p. let place = setting here.now p in in_order.value_in place (Expr.Record fields.now)) (standing (C.sources code.old) (C.counts code.old) (C.asked code.old) machine.old scope.old.names.items (H.stands_for host.old)) result (standing (C.sources code.new) (C.counts code.new) (C.asked code.new) machine.new scope.new.names.items (H.stands_for host.new)) }
 {
     let all = field_values(fields, here, scope, machine, code, host)?;
-    let v = make_record(machine.alloc, here.mode, &mut machine.heap, all.as_slice())?;
-    Ok(Reference::Of(v))
+    make_record(machine.alloc, here.mode, &mut machine.heap, all.as_slice())
 }
 
 /// The values of fields or attributes, in order.
+#[inline(never)]
 #[cycle(evaluate)]
 fn field_values<C: Code, H: Host>(
     fields: &[Field],
@@ -208,23 +219,23 @@ fn field_values<C: Code, H: Host>(
     Ok(done)
 }
 
-/// A template.
+/// The value of a template.
+#[inline(never)]
 #[cycle(evaluate)]
-fn refer_template<C: Code, H: Host>(
-    parts: &[Text],
-    holes: &[Expr],
+fn template_value<C: Code, H: Host>(
+    parts: &List<Text>,
+    holes: &List<Expr>,
     here: &Here<'_>,
     scope: &mut Scope,
     machine: &mut Machine,
     code: &mut C,
     host: &mut H,
-) -> Result<Reference, Stop>
-    ensures { Ran C.form here.now.hooked (known here.now) reference_seen (λ p. let place = setting here.now p in evaluation.refer (Expr.Template parts.now holes.now) place) (standing (C.sources code.old) (C.counts code.old) (C.asked code.old) machine.old scope.old.names.items (H.stands_for host.old)) result (standing (C.sources code.new) (C.counts code.new) (C.asked code.new) machine.new scope.new.names.items (H.stands_for host.new)) }
+) -> Result<Value, Stop>
+    ensures { Ran C.form here.now.hooked (known here.now) value_seen (λ p. let place = setting here.now p in in_order.value_in place (Expr.Template parts.now holes.now)) (standing (C.sources code.old) (C.counts code.old) (C.asked code.old) machine.old scope.old.names.items (H.stands_for host.old)) result (standing (C.sources code.new) (C.counts code.new) (C.asked code.new) machine.new scope.new.names.items (H.stands_for host.new)) }
 {
-    let texts = hole_texts(holes, here, scope, machine, code, host)?;
-    let text = filled(machine.alloc, parts, texts.as_slice())?;
-    let v = short_text(machine.alloc, text)?;
-    Ok(Reference::Of(v))
+    let texts = hole_texts(holes.as_slice(), here, scope, machine, code, host)?;
+    let text = filled(machine.alloc, parts.as_slice(), texts.as_slice())?;
+    Ok(short_text(machine.alloc, text)?)
 }
 
 /// The texts of the holes of a template, in order.
@@ -247,9 +258,10 @@ fn hole_texts<C: Code, H: Host>(
     Ok(texts)
 }
 
-/// An operator with one operand.
+/// The value of an operator with one operand.
+#[inline(never)]
 #[cycle(evaluate)]
-fn refer_unary<C: Code, H: Host>(
+fn unary_value<C: Code, H: Host>(
     operator: Un,
     e: &Expr,
     here: &Here<'_>,
@@ -257,36 +269,18 @@ fn refer_unary<C: Code, H: Host>(
     machine: &mut Machine,
     code: &mut C,
     host: &mut H,
-) -> Result<Reference, Stop>
-    ensures { Ran C.form here.now.hooked (known here.now) reference_seen (λ p. let place = setting here.now p in evaluation.refer (Expr.Unary operator e.now) place) (standing (C.sources code.old) (C.counts code.old) (C.asked code.old) machine.old scope.old.names.items (H.stands_for host.old)) result (standing (C.sources code.new) (C.counts code.new) (C.asked code.new) machine.new scope.new.names.items (H.stands_for host.new)) }
+) -> Result<Value, Stop>
+    ensures { Ran C.form here.now.hooked (known here.now) value_seen (λ p. let place = setting here.now p in in_order.value_in place (Expr.Unary operator e.now)) (standing (C.sources code.old) (C.counts code.old) (C.asked code.old) machine.old scope.old.names.items (H.stands_for host.old)) result (standing (C.sources code.new) (C.counts code.new) (C.asked code.new) machine.new scope.new.names.items (H.stands_for host.new)) }
 {
     let v = value(e, here, scope, machine, code, host)?;
-    let w = unary(operator, &v)?;
-    Ok(Reference::Of(w))
+    Ok(unary(operator, &v)?)
 }
 
-/// A chain of operands.
+/// The value of a chain of operands.
+#[inline(never)]
 #[cycle(evaluate)]
-fn refer_chain<C: Code, H: Host>(
-    first: &Expr,
-    rest: &[Operand],
-    here: &Here<'_>,
-    scope: &mut Scope,
-    machine: &mut Machine,
-    code: &mut C,
-    host: &mut H,
-) -> Result<Reference, Stop>
-    ensures { Ran C.form here.now.hooked (known here.now) reference_seen (λ p. let place = setting here.now p in evaluation.refer (Expr.Chain first.now rest.now) place) (standing (C.sources code.old) (C.counts code.old) (C.asked code.old) machine.old scope.old.names.items (H.stands_for host.old)) result (standing (C.sources code.new) (C.counts code.new) (C.asked code.new) machine.new scope.new.names.items (H.stands_for host.new)) }
-{
-    let v = value(first, here, scope, machine, code, host)?;
-    let w = chained(v, rest, here, scope, machine, code, host)?;
-    Ok(Reference::Of(w))
-}
-
-/// The operands behind the first one.
-#[cycle(evaluate)]
-fn chained<C: Code, H: Host>(
-    first: Value,
+fn chain_value<C: Code, H: Host>(
+    first: &Shared<Expr>,
     rest: &[Operand],
     here: &Here<'_>,
     scope: &mut Scope,
@@ -294,9 +288,9 @@ fn chained<C: Code, H: Host>(
     code: &mut C,
     host: &mut H,
 ) -> Result<Value, Stop>
-    ensures { Ran C.form here.now.hooked (known here.now) value_seen (λ p. let place = setting here.now p in in_order.operands_chained place rest.now (value_seen p first)) (standing (C.sources code.old) (C.counts code.old) (C.asked code.old) machine.old scope.old.names.items (H.stands_for host.old)) result (standing (C.sources code.new) (C.counts code.new) (C.asked code.new) machine.new scope.new.names.items (H.stands_for host.new)) }
+    ensures { Ran C.form here.now.hooked (known here.now) value_seen (λ p. let place = setting here.now p in in_order.value_in place (Expr.Chain first.now rest.now)) (standing (C.sources code.old) (C.counts code.old) (C.asked code.old) machine.old scope.old.names.items (H.stands_for host.old)) result (standing (C.sources code.new) (C.counts code.new) (C.asked code.new) machine.new scope.new.names.items (H.stands_for host.new)) }
 {
-    let mut v = first;
+    let mut v = value(first.get(), here, scope, machine, code, host)?;
     for operand in rest {
         v = chain_one(v, operand, here, scope, machine, code, host)?;
     }
@@ -304,6 +298,7 @@ fn chained<C: Code, H: Host>(
 }
 
 /// One operand, which is evaluated only where it is needed.
+#[inline(always)]
 #[cycle(evaluate)]
 fn chain_one<C: Code, H: Host>(
     v: Value,
@@ -323,49 +318,49 @@ fn chain_one<C: Code, H: Host>(
     Ok(binary(machine.alloc, operand.op, &v, &w)?)
 }
 
-/// The one or the other, by a condition.
+/// The value of the one or the other, by a condition.
+#[inline(never)]
 #[cycle(evaluate)]
-fn refer_cond<C: Code, H: Host>(
-    condition: &Expr,
-    then: &Expr,
-    otherwise: &Expr,
+fn cond_value<C: Code, H: Host>(
+    condition: &Shared<Expr>,
+    then: &Shared<Expr>,
+    otherwise: &Shared<Expr>,
     here: &Here<'_>,
     scope: &mut Scope,
     machine: &mut Machine,
     code: &mut C,
     host: &mut H,
-) -> Result<Reference, Stop>
-    ensures { Ran C.form here.now.hooked (known here.now) reference_seen (λ p. let place = setting here.now p in evaluation.refer (Expr.Cond condition.now then.now otherwise.now) place) (standing (C.sources code.old) (C.counts code.old) (C.asked code.old) machine.old scope.old.names.items (H.stands_for host.old)) result (standing (C.sources code.new) (C.counts code.new) (C.asked code.new) machine.new scope.new.names.items (H.stands_for host.new)) }
+) -> Result<Value, Stop>
+    ensures { Ran C.form here.now.hooked (known here.now) value_seen (λ p. let place = setting here.now p in in_order.value_in place (Expr.Cond condition.now then.now otherwise.now)) (standing (C.sources code.old) (C.counts code.old) (C.asked code.old) machine.old scope.old.names.items (H.stands_for host.old)) result (standing (C.sources code.new) (C.counts code.new) (C.asked code.new) machine.new scope.new.names.items (H.stands_for host.new)) }
 {
-    let v = value(condition, here, scope, machine, code, host)?;
+    let v = value(condition.get(), here, scope, machine, code, host)?;
     if truthy(&v) {
-        let w = value(then, here, scope, machine, code, host)?;
-        return Ok(Reference::Of(w));
+        return value(then.get(), here, scope, machine, code, host);
     }
-    let w = value(otherwise, here, scope, machine, code, host)?;
-    Ok(Reference::Of(w))
+    value(otherwise.get(), here, scope, machine, code, host)
 }
 
-/// An assignment.
+/// An assignment, which gives what it writes.
+#[inline(never)]
 #[cycle(evaluate)]
-fn refer_assign<C: Code, H: Host>(
+fn assign<C: Code, H: Host>(
     operator: AssignOp,
-    target: &Expr,
-    e: &Expr,
+    target: &Shared<Expr>,
+    e: &Shared<Expr>,
     here: &Here<'_>,
     scope: &mut Scope,
     machine: &mut Machine,
     code: &mut C,
     host: &mut H,
-) -> Result<Reference, Stop>
-    ensures { Ran C.form here.now.hooked (known here.now) reference_seen (λ p. let place = setting here.now p in evaluation.refer (Expr.Assign operator target.now e.now) place) (standing (C.sources code.old) (C.counts code.old) (C.asked code.old) machine.old scope.old.names.items (H.stands_for host.old)) result (standing (C.sources code.new) (C.counts code.new) (C.asked code.new) machine.new scope.new.names.items (H.stands_for host.new)) }
+) -> Result<Value, Stop>
+    ensures { Ran C.form here.now.hooked (known here.now) value_seen (λ p. let place = setting here.now p in in_order.value_in place (Expr.Assign operator target.now e.now)) (standing (C.sources code.old) (C.counts code.old) (C.asked code.old) machine.old scope.old.names.items (H.stands_for host.old)) result (standing (C.sources code.new) (C.counts code.new) (C.asked code.new) machine.new scope.new.names.items (H.stands_for host.new)) }
 {
-    let r = refer(target, here, scope, machine, code, host)?;
+    let r = refer(target.get(), here, scope, machine, code, host)?;
     let old = old_value(operator, &r, here, scope, machine, code, host)?;
-    let v = value(e, here, scope, machine, code, host)?;
+    let v = value(e.get(), here, scope, machine, code, host)?;
     let new = combined(machine.alloc, operator, &old, v)?;
     store(r, &new, here, scope, machine, code, host)?;
-    Ok(Reference::Of(new))
+    Ok(new)
 }
 
 /// The value that a compound assignment reads before its right side.
@@ -387,9 +382,10 @@ fn old_value<C: Code, H: Host>(
     }
 }
 
-/// `++` or `--` behind a target.
+/// `++` or `--` behind a target, which gives the value before it.
+#[inline(never)]
 #[cycle(evaluate)]
-fn refer_step<C: Code, H: Host>(
+fn step<C: Code, H: Host>(
     up: bool,
     target: &Expr,
     here: &Here<'_>,
@@ -397,19 +393,20 @@ fn refer_step<C: Code, H: Host>(
     machine: &mut Machine,
     code: &mut C,
     host: &mut H,
-) -> Result<Reference, Stop>
-    ensures { Ran C.form here.now.hooked (known here.now) reference_seen (λ p. let place = setting here.now p in evaluation.refer (Expr.Step up target.now) place) (standing (C.sources code.old) (C.counts code.old) (C.asked code.old) machine.old scope.old.names.items (H.stands_for host.old)) result (standing (C.sources code.new) (C.counts code.new) (C.asked code.new) machine.new scope.new.names.items (H.stands_for host.new)) }
+) -> Result<Value, Stop>
+    ensures { Ran C.form here.now.hooked (known here.now) value_seen (λ p. let place = setting here.now p in in_order.value_in place (Expr.Step up target.now)) (standing (C.sources code.old) (C.counts code.old) (C.asked code.old) machine.old scope.old.names.items (H.stands_for host.old)) result (standing (C.sources code.new) (C.counts code.new) (C.asked code.new) machine.new scope.new.names.items (H.stands_for host.new)) }
 {
     let r = refer(target, here, scope, machine, code, host)?;
     let old = held(&r, here, scope, machine, code, host)?;
     let new = stepped(up, &old)?;
     store(r, &new, here, scope, machine, code, host)?;
-    Ok(Reference::Of(old))
+    Ok(old)
 }
 
-/// A known call.
+/// The value of a known call.
+#[inline(never)]
 #[cycle(evaluate)]
-fn refer_known<C: Code, H: Host>(
+fn known_value<C: Code, H: Host>(
     call: Known,
     arguments: &[Expr],
     here: &Here<'_>,
@@ -417,44 +414,44 @@ fn refer_known<C: Code, H: Host>(
     machine: &mut Machine,
     code: &mut C,
     host: &mut H,
-) -> Result<Reference, Stop>
-    ensures { Ran C.form here.now.hooked (known here.now) reference_seen (λ p. let place = setting here.now p in evaluation.refer (Expr.Known call arguments.now) place) (standing (C.sources code.old) (C.counts code.old) (C.asked code.old) machine.old scope.old.names.items (H.stands_for host.old)) result (standing (C.sources code.new) (C.counts code.new) (C.asked code.new) machine.new scope.new.names.items (H.stands_for host.new)) }
+) -> Result<Value, Stop>
+    ensures { Ran C.form here.now.hooked (known here.now) value_seen (λ p. let place = setting here.now p in in_order.value_in place (Expr.Known call arguments.now)) (standing (C.sources code.old) (C.counts code.old) (C.asked code.old) machine.old scope.old.names.items (H.stands_for host.old)) result (standing (C.sources code.new) (C.counts code.new) (C.asked code.new) machine.new scope.new.names.items (H.stands_for host.new)) }
 {
     let given = values(arguments, here, scope, machine, code, host)?;
-    let v = call_known(
+    call_known(
         machine.alloc,
         here.mode,
         &mut machine.heap,
         call,
         given.as_slice(),
         host,
-    )?;
-    Ok(Reference::Of(v))
+    )
 }
 
 /// A JSX value.
+#[inline(never)]
 #[cycle(evaluate)]
-fn refer_jsx<C: Code, H: Host>(
+fn jsx_value<C: Code, H: Host>(
     jsx: &Jsx,
     here: &Here<'_>,
     scope: &mut Scope,
     machine: &mut Machine,
     code: &mut C,
     host: &mut H,
-) -> Result<Reference, Stop>
-    ensures { Ran C.form here.now.hooked (known here.now) reference_seen (λ p. let place = setting here.now p in evaluation.refer (Expr.Jsx jsx.now) place) (standing (C.sources code.old) (C.counts code.old) (C.asked code.old) machine.old scope.old.names.items (H.stands_for host.old)) result (standing (C.sources code.new) (C.counts code.new) (C.asked code.new) machine.new scope.new.names.items (H.stands_for host.new)) }
+) -> Result<Value, Stop>
+    ensures { Ran C.form here.now.hooked (known here.now) value_seen (λ p. let place = setting here.now p in in_order.value_in place (Expr.Jsx jsx.now)) (standing (C.sources code.old) (C.counts code.old) (C.asked code.old) machine.old scope.old.names.items (H.stands_for host.old)) result (standing (C.sources code.new) (C.counts code.new) (C.asked code.new) machine.new scope.new.names.items (H.stands_for host.new)) }
 {
     let shown = shown(&jsx.tag, here, machine, code, host)?;
     let attributes = field_values(jsx.attrs.as_slice(), here, scope, machine, code, host)?;
     let children = values(jsx.children.as_slice(), here, scope, machine, code, host)?;
-    let v = make_markup(machine.alloc, shown, attributes.as_slice(), children)?;
-    Ok(Reference::Of(v))
+    make_markup(machine.alloc, shown, attributes.as_slice(), children)
 }
 
 /// What a chain of postfix forms stands for.
+#[inline(never)]
 #[cycle(evaluate)]
 fn refer_post<C: Code, H: Host>(
-    head: &Expr,
+    head: &Shared<Expr>,
     links: &[Link],
     here: &Here<'_>,
     scope: &mut Scope,
@@ -464,7 +461,7 @@ fn refer_post<C: Code, H: Host>(
 ) -> Result<Reference, Stop>
     ensures { Ran C.form here.now.hooked (known here.now) reference_seen (λ p. let place = setting here.now p in evaluation.refer (Expr.Post head.now links.now) place) (standing (C.sources code.old) (C.counts code.old) (C.asked code.old) machine.old scope.old.names.items (H.stands_for host.old)) result (standing (C.sources code.new) (C.counts code.new) (C.asked code.new) machine.new scope.new.names.items (H.stands_for host.new)) }
 {
-    let r = refer(head, here, scope, machine, code, host)?;
+    let r = refer(head.get(), here, scope, machine, code, host)?;
     follow(r, links, here, scope, machine, code, host)
 }
 
@@ -517,6 +514,7 @@ fn follow_link<C: Code, H: Host>(
 }
 
 /// A member by its name.
+#[inline(never)]
 #[cycle(evaluate)]
 fn follow_name<C: Code, H: Host>(
     r: Reference,
@@ -534,6 +532,7 @@ fn follow_name<C: Code, H: Host>(
 }
 
 /// A member by its key.
+#[inline(never)]
 #[cycle(evaluate)]
 fn follow_key<C: Code, H: Host>(
     r: Reference,
@@ -552,6 +551,7 @@ fn follow_key<C: Code, H: Host>(
 }
 
 /// A call.
+#[inline(never)]
 #[cycle(evaluate)]
 fn follow_call<C: Code, H: Host>(
     r: Reference,
@@ -570,6 +570,7 @@ fn follow_call<C: Code, H: Host>(
 }
 
 /// What a reference calls.
+#[inline(never)]
 #[cycle(evaluate)]
 fn callee<C: Code, H: Host>(
     r: Reference,
@@ -594,6 +595,7 @@ fn callee<C: Code, H: Host>(
 }
 
 /// What a member calls: a method, or what is read there.
+#[inline(never)]
 #[cycle(evaluate)]
 fn member_callee<C: Code, H: Host>(
     object: Value,
@@ -615,6 +617,7 @@ fn member_callee<C: Code, H: Host>(
 }
 
 /// A call of what is called, with these arguments.
+#[inline(never)]
 #[cycle(evaluate)]
 fn call_of<C: Code, H: Host>(
     c: Callee,
@@ -635,6 +638,7 @@ fn call_of<C: Code, H: Host>(
 }
 
 /// `qrl` of a symbol and a list of captured values.
+#[inline(never)]
 #[cycle(evaluate)]
 fn lifted<C: Code, H: Host>(
     arguments: &[Expr],
@@ -674,6 +678,7 @@ fn values<C: Code, H: Host>(
 }
 
 /// A call with its evaluated arguments.
+#[inline(never)]
 #[cycle(evaluate)]
 fn call<C: Code, H: Host>(
     c: Callee,
@@ -725,6 +730,7 @@ fn call_value<C: Code, H: Host>(
 }
 
 /// A method with its arguments.
+#[inline(never)]
 #[cycle(evaluate)]
 fn call_method<C: Code, H: Host>(
     method: Method,
@@ -823,6 +829,7 @@ fn call_on_each<C: Code, H: Host>(
 }
 
 /// A hook of the framework, which the host answers.
+#[inline(never)]
 #[cycle(evaluate)]
 fn call_hook<C: Code, H: Host>(
     kind: HookKind,
@@ -872,6 +879,7 @@ fn run_task<C: Code, H: Host>(
 }
 
 /// `track` of an arrow.
+#[inline(never)]
 #[cycle(evaluate)]
 fn call_tracker<C: Code, H: Host>(
     given: &[Value],
@@ -1329,18 +1337,14 @@ fn run<C: Code, H: Host>(
         ),
         Stmt::Break => Ok(Flow::Broke),
         Stmt::Continue => Ok(Flow::Continued),
-        Stmt::Block(statements) => run_block(
-            statements.as_slice(),
-            here,
-            scope,
-            machine,
-            code,
-            host,
-        ),
+        Stmt::Block(statements) => {
+            run_block(statements.as_slice(), here, scope, machine, code, host)
+        }
     }
 }
 
 /// An expression as a statement.
+#[inline(never)]
 #[cycle(evaluate)]
 fn run_do<C: Code, H: Host>(
     e: &Expr,
@@ -1357,6 +1361,7 @@ fn run_do<C: Code, H: Host>(
 }
 
 /// A `delete`.
+#[inline(never)]
 #[cycle(evaluate)]
 fn run_delete<C: Code, H: Host>(
     target: &Expr,
@@ -1374,6 +1379,7 @@ fn run_delete<C: Code, H: Host>(
 }
 
 /// A return.
+#[inline(never)]
 #[cycle(evaluate)]
 fn run_return<C: Code, H: Host>(
     e: &Option<Expr>,
@@ -1395,6 +1401,7 @@ fn run_return<C: Code, H: Host>(
 }
 
 /// A `const`; the names of `useLexicalScope` have their values since the arrow was entered.
+#[inline(never)]
 #[cycle(evaluate)]
 fn run_const<C: Code, H: Host>(
     pattern: &Pattern,
@@ -1416,6 +1423,7 @@ fn run_const<C: Code, H: Host>(
 }
 
 /// A `let`.
+#[inline(never)]
 #[cycle(evaluate)]
 fn run_let<C: Code, H: Host>(
     name: &Text,
@@ -1434,6 +1442,7 @@ fn run_let<C: Code, H: Host>(
 }
 
 /// The one block or the other, by a condition.
+#[inline(never)]
 #[cycle(evaluate)]
 fn run_if<C: Code, H: Host>(
     condition: &Expr,
@@ -1455,6 +1464,7 @@ fn run_if<C: Code, H: Host>(
 }
 
 /// A `while`.
+#[inline(never)]
 #[cycle(evaluate)]
 fn run_while<C: Code, H: Host>(
     condition: &Expr,
@@ -1485,6 +1495,7 @@ fn run_while<C: Code, H: Host>(
 }
 
 /// A `for` over the items of a list or array, as they are when it begins.
+#[inline(never)]
 #[cycle(evaluate)]
 fn run_for<C: Code, H: Host>(
     name: &Text,
@@ -1513,6 +1524,7 @@ fn run_for<C: Code, H: Host>(
 }
 
 /// The turns of a `for`, one for each item.
+#[inline(never)]
 #[cycle(evaluate)]
 fn run_each<C: Code, H: Host>(
     name: &Text,
@@ -1539,6 +1551,7 @@ fn run_each<C: Code, H: Host>(
 }
 
 /// One turn of a `for`, where the name is the item.
+#[inline(never)]
 #[cycle(evaluate)]
 fn run_turn<C: Code, H: Host>(
     name: &Text,

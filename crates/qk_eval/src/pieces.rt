@@ -8,6 +8,7 @@ ghost use Rattle.qk_ast.specs.declared.Expr.TheVariants as expr;
 ghost use Rattle.qk_meaning.specs.Value.{Site};
 ghost use Rattle.qk_meaning.specs.Making.{filled as parts_filled};
 ghost use Rattle.qk_meaning.specs.Methods as methods;
+ghost use Rattle.qk_meaning.specs.Operators as operators;
 ghost use Rattle.qk_meaning.specs.References as references;
 ghost use Rattle.qk_value.specs.View.{seen};
 ghost use Rattle.qk_value.specs.declared.value.Value.{Fun as Function};
@@ -19,12 +20,18 @@ use qk_shared::{Builder, Text};
 use qk_value::{Fun, Value};
 use std::alloc::{AllocError, Global};
 
-/// The parts of a template with the texts of its holes between them.
+/// The most bytes that a text has as a value.
+const MOST_BYTES: usize = 1048576;
+
+/// The parts of a template with the texts of its holes between them. Nothing is added to what is too long for a value already.
 pub fn filled(alloc: Global, parts: &[Text], holes: &[Text]) -> Result<String, AllocError>
-    ensures { IfOk result (λ t. string_bytes t ≡ parts_filled parts.now holes.now) }
+    ensures { IfOk result (λ t. operators.short_text (string_bytes t) ≡ operators.short_text (parts_filled parts.now holes.now)) }
 {
     let mut text = String::new(alloc);
     for (i, part) in parts.iter().enumerate() {
+        if text.len() > MOST_BYTES {
+            return Ok(text);
+        }
         text.push_str(part.as_str())?;
         if let Some(hole) = holes.get(i) {
             text.push_str(hole.as_str())?;

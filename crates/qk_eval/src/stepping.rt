@@ -8,6 +8,7 @@ ghost use Rattle.qk_meaning.specs.Program.{Program};
 ghost use Rattle.qk_meaning.specs.References as references;
 ghost use Rattle.qk_meaning.specs.Calls as calls;
 ghost use Rattle.qk_meaning.specs.Evaluation as evaluation;
+ghost use Rattle.qk_meaning.specs.In_order as in_order;
 ghost use Rattle.qk_code.specs.Standing.{framework_in};
 ghost use Rattle.qk_code.specs.Ran.{Ran};
 ghost use Rattle.qk_eval.specs.Placing.{setting, known};
@@ -112,19 +113,19 @@ pub(crate) fn store_member<C: Code, H: Host>(
     write_member(here.mode, &mut machine.heap, object, key, v, host)
 }
 
-/// An arrow.
-pub(crate) fn refer_arrow<C: Code, H: Host>(
+/// The function of an arrow.
+#[inline(never)]
+pub(crate) fn arrow_value<C: Code, H: Host>(
     arrow: &Arrow,
     here: &Here<'_>,
     scope: &mut Scope,
     machine: &mut Machine,
     code: &mut C,
     host: &mut H,
-) -> Result<Reference, Stop>
-    ensures { Ran C.form here.now.hooked (known here.now) reference_seen (λ p. let place = setting here.now p in evaluation.refer (expr.Arrow arrow.now) place) (standing (C.sources code.old) (C.counts code.old) (C.asked code.old) machine.old scope.old.names.items (H.stands_for host.old)) result (standing (C.sources code.new) (C.counts code.new) (C.asked code.new) machine.new scope.new.names.items (H.stands_for host.new)) }
+) -> Result<Value, Stop>
+    ensures { Ran C.form here.now.hooked (known here.now) value_seen (λ p. let place = setting here.now p in in_order.value_in place (expr.Arrow arrow.now)) (standing (C.sources code.old) (C.counts code.old) (C.asked code.old) machine.old scope.old.names.items (H.stands_for host.old)) result (standing (C.sources code.new) (C.counts code.new) (C.asked code.new) machine.new scope.new.names.items (H.stands_for host.new)) }
 {
-    let v = make_function(machine.alloc, here.func, arrow.place, scope)?;
-    Ok(Reference::Of(v))
+    make_function(machine.alloc, here.func, arrow.place, scope)
 }
 
 /// What a tag shows.

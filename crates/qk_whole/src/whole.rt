@@ -3,6 +3,7 @@
 ghost use Rattle.std.specs.Prelude.{◌≡◌, ◌<◌, ◌≤◌, ◌+◌, Bool, Some, None, false, length, IfOk, IfErr, IfSome, IfNone, OnOk};
 ghost use Rattle.std.specs.Option.{option_copied};
 ghost use Rattle.qk_whole.specs.Holding.{Holds_files};
+ghost use Rattle.qk_whole.specs.Refusing.{Last_lacked};
 
 use crate::files::File;
 use crate::filing::all_files;
@@ -10,7 +11,7 @@ use crate::numbers::numbered;
 use crate::roots::shared;
 use qk_application::Application;
 use qk_ast::Origin;
-use qk_code::{Code, CodeFault, Func, Root};
+use qk_code::{Ask, Code, CodeFault, Func, Refusal, Root};
 use qk_modules::Modules;
 use qk_shared::{Shared, Text};
 use qk_sites::read_symbol;
@@ -23,8 +24,9 @@ pub struct WholeCode {
     modules: Modules,
     files: BTreeMap<String, File>,
     refusals: u64,
-    last: Option<CodeFault>,
+    last: Option<Refusal>,
     ghost right: { ∥ Holds_files modules.list (length modules.list) files ∥₁ },
+    ghost lacked: { ∥ Last_lacked modules.list last ∥₁ },
 }
 
 impl WholeCode {
@@ -109,12 +111,13 @@ impl WholeCode {
 /// Refusals.
 impl WholeCode {
     ghost use Rattle.qk_code.specs.Counts.{Because, Later};
-    ghost use Rattle.qk_whole.specs.Refusing.{counted, Misses};
+    ghost use Rattle.qk_whole.specs.Refusing.{counted, Misses, Lacks};
 
-    /// The refusal of what a file doesn't have, which is counted.
-    fn refused(&mut self, file: &Text) -> CodeFault
+    /// The refusal of what was asked for in vain, which is counted. It is told of this file or symbol.
+    fn refused(&mut self, ask: Ask, file: &Text) -> CodeFault
+        requires { Lacks self.old.modules.list ask }
         ensures later { Later (counted self.old.refusals self.old.last) (counted self.new.refusals self.new.last) }
-        ensures because { Because (counted self.old.refusals self.old.last) (counted self.new.refusals self.new.last) result }
+        ensures because { Because (counted self.old.refusals self.old.last) (counted self.new.refusals self.new.last) ask result }
         ensures misses { Misses file.now result }
         ensures modules { self.new.modules ≡ self.old.modules }
     {
@@ -125,7 +128,10 @@ impl WholeCode {
             return CodeFault::Memory;
         };
         self.refusals = self.refusals.saturating_add(1);
-        self.last = Some(CodeFault::Missing(last));
+        self.last = Some(Refusal {
+            ask,
+            why: CodeFault::Missing(last),
+        });
         CodeFault::Missing(missing)
     }
 }
@@ -147,21 +153,30 @@ impl Code for WholeCode {
     fn body(&mut self, symbol: &Text) -> Result<Shared<Func>, CodeFault> {
         match self.by_symbol(symbol) {
             Some(function) => Ok(function.share()?),
-            None => Err(self.refused(symbol)),
+            None => {
+                let ask = Ask::Body(symbol.share()?);
+                Err(self.refused(ask, symbol))
+            }
         }
     }
 
     fn root(&mut self, file: &Text, name: &Text) -> Result<Root, CodeFault> {
         match self.by_name(file, name) {
             Some(root) => Ok(shared(root)?),
-            None => Err(self.refused(file)),
+            None => {
+                let ask = Ask::Root(file.share()?, name.share()?);
+                Err(self.refused(ask, file))
+            }
         }
     }
 
     fn plain(&mut self, file: &Text, number: u32) -> Result<Shared<Func>, CodeFault> {
         match self.by_number(file, number) {
             Some(function) => Ok(function.share()?),
-            None => Err(self.refused(file)),
+            None => {
+                let ask = Ask::Plain(file.share()?, number);
+                Err(self.refused(ask, file))
+            }
         }
     }
 }

@@ -16,57 +16,6 @@ use Rattle.qk_eval.proofs.evaluation.+evaluate.Answers.Statements as Statements
 use Rattle.qk_eval.proofs.evaluation.+evaluate.Answers.Turns as Turns
 use Rattle.qk_eval.proofs.evaluation.+evaluate.Goals as goal
 
-pub value-returns-in_err-r : goal.value-returns-in_err-r
-value-returns-in_err-r = Forms.value-returns-in_err-r
-
-pub value-returns : goal.value-returns
-value-returns = Forms.value-returns
-
-pub refer-returns-in_err-share-in-Text : goal.refer-returns-in_err-share-in-Text
-refer-returns-in_err-share-in-Text = Forms.refer-returns-in_err-share-in-Text
-
-pub refer-returns-in-Undefined : goal.refer-returns-in-Undefined
-refer-returns-in-Undefined = Forms.refer-returns-in-Undefined
-
-pub refer-returns-in-Null : goal.refer-returns-in-Null
-refer-returns-in-Null = Forms.refer-returns-in-Null
-
-pub refer-returns-in-Bool : goal.refer-returns-in-Bool
-refer-returns-in-Bool = Forms.refer-returns-in-Bool
-
-pub refer-returns-in-Int : goal.refer-returns-in-Int
-refer-returns-in-Int = Forms.refer-returns-in-Int
-
-pub refer-returns-in_ok-share-in-Text : goal.refer-returns-in_ok-share-in-Text
-refer-returns-in_ok-share-in-Text = Forms.refer-returns-in_ok-share-in-Text
-
-pub refer-returns-in-Cond : goal.refer-returns-in-Cond
-refer-returns-in-Cond = Forms.refer-returns-in-Cond
-
-pub refer-returns-in-Post : goal.refer-returns-in-Post
-refer-returns-in-Post = Forms.refer-returns-in-Post
-
-pub refer_cond-returns-in_err-v : goal.refer_cond-returns-in_err-v
-refer_cond-returns-in_err-v = Forms.refer_cond-returns-in_err-v
-
-pub refer_cond-returns-in_err-w : goal.refer_cond-returns-in_err-w
-refer_cond-returns-in_err-w = Forms.refer_cond-returns-in_err-w
-
-pub refer_cond-returns-then-truthy : goal.refer_cond-returns-then-truthy
-refer_cond-returns-then-truthy = Forms.refer_cond-returns-then-truthy
-
-pub refer_cond-returns-in_err-w-2 : goal.refer_cond-returns-in_err-w-2
-refer_cond-returns-in_err-w-2 = Forms.refer_cond-returns-in_err-w-2
-
-pub refer_cond-returns : goal.refer_cond-returns
-refer_cond-returns = Forms.refer_cond-returns
-
-pub refer_post-returns-in_err-r : goal.refer_post-returns-in_err-r
-refer_post-returns-in_err-r = Links.refer_post-returns-in_err-r
-
-pub refer_post-returns : goal.refer_post-returns
-refer_post-returns = Links.refer_post-returns
-
 pub follow_name-returns-in_err-object : goal.follow_name-returns-in_err-object
 follow_name-returns-in_err-object = Links.follow_name-returns-in_err-object
 
@@ -247,51 +196,6 @@ computed-returns-in_err-known = Links.computed-returns-in_err-known
 pub computed-returns-in_err-v : goal.computed-returns-in_err-v
 computed-returns-in_err-v = Links.computed-returns-in_err-v
 
-pub refer_list-returns-in_err-all : goal.refer_list-returns-in_err-all
-refer_list-returns-in_err-all = Forms.refer_list-returns-in_err-all
-
-pub refer_list-returns-in_err-v : goal.refer_list-returns-in_err-v
-refer_list-returns-in_err-v = Forms.refer_list-returns-in_err-v
-
-pub refer_list-returns : goal.refer_list-returns
-refer_list-returns = Forms.refer_list-returns
-
-pub refer_record-returns-in_err-all : goal.refer_record-returns-in_err-all
-refer_record-returns-in_err-all = Forms.refer_record-returns-in_err-all
-
-pub refer_record-returns-in_err-v : goal.refer_record-returns-in_err-v
-refer_record-returns-in_err-v = Forms.refer_record-returns-in_err-v
-
-pub refer_record-returns : goal.refer_record-returns
-refer_record-returns = Forms.refer_record-returns
-
-pub refer_known-returns-in_err-given : goal.refer_known-returns-in_err-given
-refer_known-returns-in_err-given = Operands.refer_known-returns-in_err-given
-
-pub refer_known-returns-in_err-v : goal.refer_known-returns-in_err-v
-refer_known-returns-in_err-v = Operands.refer_known-returns-in_err-v
-
-pub refer_known-returns : goal.refer_known-returns
-refer_known-returns = Operands.refer_known-returns
-
-pub refer_unary-returns-in_err-v : goal.refer_unary-returns-in_err-v
-refer_unary-returns-in_err-v = Forms.refer_unary-returns-in_err-v
-
-pub refer_unary-returns-in_err-w : goal.refer_unary-returns-in_err-w
-refer_unary-returns-in_err-w = Forms.refer_unary-returns-in_err-w
-
-pub refer_unary-returns : goal.refer_unary-returns
-refer_unary-returns = Forms.refer_unary-returns
-
-pub refer_chain-returns-in_err-v : goal.refer_chain-returns-in_err-v
-refer_chain-returns-in_err-v = Operands.refer_chain-returns-in_err-v
-
-pub refer_chain-returns-in_err-w : goal.refer_chain-returns-in_err-w
-refer_chain-returns-in_err-w = Operands.refer_chain-returns-in_err-w
-
-pub refer_chain-returns : goal.refer_chain-returns
-refer_chain-returns = Operands.refer_chain-returns
-
 pub values-loop-e-init : goal.values-loop-e-init
 values-loop-e-init = Operands.values-loop-e-init
 
@@ -306,18 +210,6 @@ values-loop-e-preserved = Operands.values-loop-e-preserved
 
 pub values-returns : goal.values-returns
 values-returns = Operands.values-returns
-
-pub chained-loop-operand-init : goal.chained-loop-operand-init
-chained-loop-operand-init = Operands.chained-loop-operand-init
-
-pub chained-returns-in_err-v : goal.chained-returns-in_err-v
-chained-returns-in_err-v = Operands.chained-returns-in_err-v
-
-pub chained-loop-operand-preserved : goal.chained-loop-operand-preserved
-chained-loop-operand-preserved = Operands.chained-loop-operand-preserved
-
-pub chained-returns : goal.chained-returns
-chained-returns = Operands.chained-returns
 
 pub follow-loop-link-init : goal.follow-loop-link-init
 follow-loop-link-init = Links.follow-loop-link-init
@@ -352,30 +244,6 @@ field_values-returns = Forms.field_values-returns
 pub run_do-returns-in_err-_v : goal.run_do-returns-in_err-_v
 run_do-returns-in_err-_v = Statements.run_do-returns-in_err-_v
 
-pub chain_one-returns-then-decides : goal.chain_one-returns-then-decides
-chain_one-returns-then-decides = Operands.chain_one-returns-then-decides
-
-pub chain_one-returns-in_err-w : goal.chain_one-returns-in_err-w
-chain_one-returns-in_err-w = Operands.chain_one-returns-in_err-w
-
-pub chain_one-returns-in_err-binary : goal.chain_one-returns-in_err-binary
-chain_one-returns-in_err-binary = Operands.chain_one-returns-in_err-binary
-
-pub chain_one-returns : goal.chain_one-returns
-chain_one-returns = Operands.chain_one-returns
-
-pub refer_template-returns-in_err-texts : goal.refer_template-returns-in_err-texts
-refer_template-returns-in_err-texts = Forms.refer_template-returns-in_err-texts
-
-pub refer_template-returns-in_err-text : goal.refer_template-returns-in_err-text
-refer_template-returns-in_err-text = Forms.refer_template-returns-in_err-text
-
-pub refer_template-returns-in_err-v : goal.refer_template-returns-in_err-v
-refer_template-returns-in_err-v = Forms.refer_template-returns-in_err-v
-
-pub refer_template-returns : goal.refer_template-returns
-refer_template-returns = Forms.refer_template-returns
-
 pub hole_texts-loop-hole-init : goal.hole_texts-loop-hole-init
 hole_texts-loop-hole-init = Forms.hole_texts-loop-hole-init
 
@@ -393,39 +261,6 @@ hole_texts-loop-hole-preserved = Forms.hole_texts-loop-hole-preserved
 
 pub hole_texts-returns : goal.hole_texts-returns
 hole_texts-returns = Forms.hole_texts-returns
-
-pub refer_assign-returns-in_err-r : goal.refer_assign-returns-in_err-r
-refer_assign-returns-in_err-r = Operands.refer_assign-returns-in_err-r
-
-pub refer_assign-returns-in_err-old : goal.refer_assign-returns-in_err-old
-refer_assign-returns-in_err-old = Operands.refer_assign-returns-in_err-old
-
-pub refer_assign-returns-in_err-v : goal.refer_assign-returns-in_err-v
-refer_assign-returns-in_err-v = Operands.refer_assign-returns-in_err-v
-
-pub refer_assign-returns-in_err-new : goal.refer_assign-returns-in_err-new
-refer_assign-returns-in_err-new = Operands.refer_assign-returns-in_err-new
-
-pub refer_assign-returns-in_err-store : goal.refer_assign-returns-in_err-store
-refer_assign-returns-in_err-store = Operands.refer_assign-returns-in_err-store
-
-pub refer_assign-returns : goal.refer_assign-returns
-refer_assign-returns = Operands.refer_assign-returns
-
-pub refer_step-returns-in_err-r : goal.refer_step-returns-in_err-r
-refer_step-returns-in_err-r = Operands.refer_step-returns-in_err-r
-
-pub refer_step-returns-in_err-old : goal.refer_step-returns-in_err-old
-refer_step-returns-in_err-old = Operands.refer_step-returns-in_err-old
-
-pub refer_step-returns-in_err-new : goal.refer_step-returns-in_err-new
-refer_step-returns-in_err-new = Operands.refer_step-returns-in_err-new
-
-pub refer_step-returns-in_err-store : goal.refer_step-returns-in_err-store
-refer_step-returns-in_err-store = Operands.refer_step-returns-in_err-store
-
-pub refer_step-returns : goal.refer_step-returns
-refer_step-returns = Operands.refer_step-returns
 
 pub held-returns-in_err-share-in-Of : goal.held-returns-in_err-share-in-Of
 held-returns-in_err-share-in-Of = Links.held-returns-in_err-share-in-Of
@@ -447,54 +282,6 @@ held-returns-in-Tracker = Links.held-returns-in-Tracker
 
 pub held-returns-in-Framework : goal.held-returns-in-Framework
 held-returns-in-Framework = Links.held-returns-in-Framework
-
-pub refer_jsx-returns-in_err-shown : goal.refer_jsx-returns-in_err-shown
-refer_jsx-returns-in_err-shown = Forms.refer_jsx-returns-in_err-shown
-
-pub refer_jsx-returns-in_err-attributes : goal.refer_jsx-returns-in_err-attributes
-refer_jsx-returns-in_err-attributes = Forms.refer_jsx-returns-in_err-attributes
-
-pub refer_jsx-returns-in_err-children : goal.refer_jsx-returns-in_err-children
-refer_jsx-returns-in_err-children = Forms.refer_jsx-returns-in_err-children
-
-pub refer_jsx-returns-in_err-v : goal.refer_jsx-returns-in_err-v
-refer_jsx-returns-in_err-v = Forms.refer_jsx-returns-in_err-v
-
-pub refer_jsx-returns : goal.refer_jsx-returns
-refer_jsx-returns = Forms.refer_jsx-returns
-
-pub refer-returns-in-Name : goal.refer-returns-in-Name
-refer-returns-in-Name = Forms.refer-returns-in-Name
-
-pub refer-returns-in-List : goal.refer-returns-in-List
-refer-returns-in-List = Forms.refer-returns-in-List
-
-pub refer-returns-in-Record : goal.refer-returns-in-Record
-refer-returns-in-Record = Forms.refer-returns-in-Record
-
-pub refer-returns-in-Template : goal.refer-returns-in-Template
-refer-returns-in-Template = Forms.refer-returns-in-Template
-
-pub refer-returns-in-Unary : goal.refer-returns-in-Unary
-refer-returns-in-Unary = Forms.refer-returns-in-Unary
-
-pub refer-returns-in-Chain : goal.refer-returns-in-Chain
-refer-returns-in-Chain = Forms.refer-returns-in-Chain
-
-pub refer-returns-in-Assign : goal.refer-returns-in-Assign
-refer-returns-in-Assign = Forms.refer-returns-in-Assign
-
-pub refer-returns-in-Step : goal.refer-returns-in-Step
-refer-returns-in-Step = Forms.refer-returns-in-Step
-
-pub refer-returns-in-Known : goal.refer-returns-in-Known
-refer-returns-in-Known = Forms.refer-returns-in-Known
-
-pub refer-returns-in-Arrow : goal.refer-returns-in-Arrow
-refer-returns-in-Arrow = Forms.refer-returns-in-Arrow
-
-pub refer-returns-in-Jsx : goal.refer-returns-in-Jsx
-refer-returns-in-Jsx = Forms.refer-returns-in-Jsx
 
 pub callee-returns-in-Member : goal.callee-returns-in-Member
 callee-returns-in-Member = Links.callee-returns-in-Member
@@ -849,3 +636,210 @@ lifted-returns = Calls.lifted-returns
 
 pub old_value-returns-in-Set : goal.old_value-returns-in-Set
 old_value-returns-in-Set = Operands.old_value-returns-in-Set
+
+pub value-returns-in-Undefined : goal.value-returns-in-Undefined
+value-returns-in-Undefined = Forms.value-returns-in-Undefined
+
+pub value-returns-in-Null : goal.value-returns-in-Null
+value-returns-in-Null = Forms.value-returns-in-Null
+
+pub value-returns-in-Bool : goal.value-returns-in-Bool
+value-returns-in-Bool = Forms.value-returns-in-Bool
+
+pub value-returns-in-Int : goal.value-returns-in-Int
+value-returns-in-Int = Forms.value-returns-in-Int
+
+pub value-returns-in_err-share-in-Text : goal.value-returns-in_err-share-in-Text
+value-returns-in_err-share-in-Text = Forms.value-returns-in_err-share-in-Text
+
+pub value-returns-in_ok-share-in-Text : goal.value-returns-in_ok-share-in-Text
+value-returns-in_ok-share-in-Text = Forms.value-returns-in_ok-share-in-Text
+
+pub value-returns-in-Name : goal.value-returns-in-Name
+value-returns-in-Name = Forms.value-returns-in-Name
+
+pub value-returns-in-List : goal.value-returns-in-List
+value-returns-in-List = Forms.value-returns-in-List
+
+pub value-returns-in-Record : goal.value-returns-in-Record
+value-returns-in-Record = Forms.value-returns-in-Record
+
+pub value-returns-in-Template : goal.value-returns-in-Template
+value-returns-in-Template = Forms.value-returns-in-Template
+
+pub value-returns-in-Unary : goal.value-returns-in-Unary
+value-returns-in-Unary = Forms.value-returns-in-Unary
+
+pub value-returns-in-Chain : goal.value-returns-in-Chain
+value-returns-in-Chain = Forms.value-returns-in-Chain
+
+pub value-returns-in-Cond : goal.value-returns-in-Cond
+value-returns-in-Cond = Forms.value-returns-in-Cond
+
+pub value-returns-in-Post : goal.value-returns-in-Post
+value-returns-in-Post = Forms.value-returns-in-Post
+
+pub value-returns-in-Assign : goal.value-returns-in-Assign
+value-returns-in-Assign = Forms.value-returns-in-Assign
+
+pub value-returns-in-Step : goal.value-returns-in-Step
+value-returns-in-Step = Forms.value-returns-in-Step
+
+pub value-returns-in-Known : goal.value-returns-in-Known
+value-returns-in-Known = Forms.value-returns-in-Known
+
+pub value-returns-in-Arrow : goal.value-returns-in-Arrow
+value-returns-in-Arrow = Forms.value-returns-in-Arrow
+
+pub value-returns-in-Jsx : goal.value-returns-in-Jsx
+value-returns-in-Jsx = Forms.value-returns-in-Jsx
+
+pub name_value-returns-in_err-r : goal.name_value-returns-in_err-r
+name_value-returns-in_err-r = Forms.name_value-returns-in_err-r
+
+pub name_value-returns : goal.name_value-returns
+name_value-returns = Forms.name_value-returns
+
+pub post_value-returns-in_err-r : goal.post_value-returns-in_err-r
+post_value-returns-in_err-r = Forms.post_value-returns-in_err-r
+
+pub post_value-returns : goal.post_value-returns
+post_value-returns = Forms.post_value-returns
+
+pub refer-returns-in-Name : goal.refer-returns-in-Name
+refer-returns-in-Name = Forms.refer-returns-in-Name
+
+pub refer-returns-in-Post : goal.refer-returns-in-Post
+refer-returns-in-Post = Forms.refer-returns-in-Post
+
+pub refer-returns-in_err-v-in_default : goal.refer-returns-in_err-v-in_default
+refer-returns-in_err-v-in_default = Forms.refer-returns-in_err-v-in_default
+
+pub refer-returns-in_ok-v-in_default : goal.refer-returns-in_ok-v-in_default
+refer-returns-in_ok-v-in_default = Forms.refer-returns-in_ok-v-in_default
+
+pub cond_value-returns-in_err-v : goal.cond_value-returns-in_err-v
+cond_value-returns-in_err-v = Forms.cond_value-returns-in_err-v
+
+pub cond_value-returns-then-truthy : goal.cond_value-returns-then-truthy
+cond_value-returns-then-truthy = Forms.cond_value-returns-then-truthy
+
+pub cond_value-returns : goal.cond_value-returns
+cond_value-returns = Forms.cond_value-returns
+
+pub list_value-returns-in_err-all : goal.list_value-returns-in_err-all
+list_value-returns-in_err-all = Forms.list_value-returns-in_err-all
+
+pub list_value-returns : goal.list_value-returns
+list_value-returns = Forms.list_value-returns
+
+pub record_value-returns-in_err-all : goal.record_value-returns-in_err-all
+record_value-returns-in_err-all = Forms.record_value-returns-in_err-all
+
+pub record_value-returns : goal.record_value-returns
+record_value-returns = Forms.record_value-returns
+
+pub template_value-returns-in_err-texts : goal.template_value-returns-in_err-texts
+template_value-returns-in_err-texts = Forms.template_value-returns-in_err-texts
+
+pub template_value-returns-in_err-text : goal.template_value-returns-in_err-text
+template_value-returns-in_err-text = Forms.template_value-returns-in_err-text
+
+pub template_value-returns-in_err-short_text : goal.template_value-returns-in_err-short_text
+template_value-returns-in_err-short_text = Forms.template_value-returns-in_err-short_text
+
+pub template_value-returns : goal.template_value-returns
+template_value-returns = Forms.template_value-returns
+
+pub unary_value-returns-in_err-v : goal.unary_value-returns-in_err-v
+unary_value-returns-in_err-v = Forms.unary_value-returns-in_err-v
+
+pub unary_value-returns-in_err-unary : goal.unary_value-returns-in_err-unary
+unary_value-returns-in_err-unary = Forms.unary_value-returns-in_err-unary
+
+pub unary_value-returns : goal.unary_value-returns
+unary_value-returns = Forms.unary_value-returns
+
+pub jsx_value-returns-in_err-shown : goal.jsx_value-returns-in_err-shown
+jsx_value-returns-in_err-shown = Forms.jsx_value-returns-in_err-shown
+
+pub jsx_value-returns-in_err-attributes : goal.jsx_value-returns-in_err-attributes
+jsx_value-returns-in_err-attributes = Forms.jsx_value-returns-in_err-attributes
+
+pub jsx_value-returns-in_err-children : goal.jsx_value-returns-in_err-children
+jsx_value-returns-in_err-children = Forms.jsx_value-returns-in_err-children
+
+pub jsx_value-returns : goal.jsx_value-returns
+jsx_value-returns = Forms.jsx_value-returns
+
+pub known_value-returns-in_err-given : goal.known_value-returns-in_err-given
+known_value-returns-in_err-given = Operands.known_value-returns-in_err-given
+
+pub known_value-returns : goal.known_value-returns
+known_value-returns = Operands.known_value-returns
+
+pub chain_value-returns-in_err-v : goal.chain_value-returns-in_err-v
+chain_value-returns-in_err-v = Operands.chain_value-returns-in_err-v
+
+pub chain_value-loop-operand-init : goal.chain_value-loop-operand-init
+chain_value-loop-operand-init = Operands.chain_value-loop-operand-init
+
+pub chain_value-returns-in_err-v-2 : goal.chain_value-returns-in_err-v-2
+chain_value-returns-in_err-v-2 = Operands.chain_value-returns-in_err-v-2
+
+pub chain_value-loop-operand-preserved : goal.chain_value-loop-operand-preserved
+chain_value-loop-operand-preserved = Operands.chain_value-loop-operand-preserved
+
+pub chain_value-returns : goal.chain_value-returns
+chain_value-returns = Operands.chain_value-returns
+
+pub assign-returns-in_err-r : goal.assign-returns-in_err-r
+assign-returns-in_err-r = Operands.assign-returns-in_err-r
+
+pub assign-returns-in_err-old : goal.assign-returns-in_err-old
+assign-returns-in_err-old = Operands.assign-returns-in_err-old
+
+pub assign-returns-in_err-v : goal.assign-returns-in_err-v
+assign-returns-in_err-v = Operands.assign-returns-in_err-v
+
+pub assign-returns-in_err-new : goal.assign-returns-in_err-new
+assign-returns-in_err-new = Operands.assign-returns-in_err-new
+
+pub assign-returns-in_err-store : goal.assign-returns-in_err-store
+assign-returns-in_err-store = Operands.assign-returns-in_err-store
+
+pub assign-returns : goal.assign-returns
+assign-returns = Operands.assign-returns
+
+pub step-returns-in_err-r : goal.step-returns-in_err-r
+step-returns-in_err-r = Operands.step-returns-in_err-r
+
+pub step-returns-in_err-old : goal.step-returns-in_err-old
+step-returns-in_err-old = Operands.step-returns-in_err-old
+
+pub step-returns-in_err-new : goal.step-returns-in_err-new
+step-returns-in_err-new = Operands.step-returns-in_err-new
+
+pub step-returns-in_err-store : goal.step-returns-in_err-store
+step-returns-in_err-store = Operands.step-returns-in_err-store
+
+pub step-returns : goal.step-returns
+step-returns = Operands.step-returns
+
+pub chain_one-returns-then-decides : goal.chain_one-returns-then-decides
+chain_one-returns-then-decides = Operands.chain_one-returns-then-decides
+
+pub chain_one-returns-in_err-w : goal.chain_one-returns-in_err-w
+chain_one-returns-in_err-w = Operands.chain_one-returns-in_err-w
+
+pub chain_one-returns-in_err-binary : goal.chain_one-returns-in_err-binary
+chain_one-returns-in_err-binary = Operands.chain_one-returns-in_err-binary
+
+pub chain_one-returns : goal.chain_one-returns
+chain_one-returns = Operands.chain_one-returns
+
+pub refer_post-returns-in_err-r : goal.refer_post-returns-in_err-r
+refer_post-returns-in_err-r = Links.refer_post-returns-in_err-r
+
+pub refer_post-returns : goal.refer_post-returns
+refer_post-returns = Links.refer_post-returns

@@ -12,6 +12,7 @@ use Rattle.qk_meaning.specs.Methods.{called_on_each, numbered}
 use Rattle.qk_meaning.specs.References.{all_bound, fields_bound}
 use Rattle.qk_meaning.specs.Evaluation.{ran}
 use Rattle.qk_meaning.specs.In_order.{value_in, values_in, hole_text, fields_in, operands_chained, links_followed, statements_ran, block_ran}
+use Rattle.qk_ast.specs.declared.Expr.TheVariants as ex
 use Rattle.qk_ast.specs.declared.Stmt.TheVariants as st
 use Rattle.qk_code.specs.World.{world}
 use Rattle.qk_code.specs.Ran.{Ran}
@@ -38,55 +39,58 @@ abbrev order : ℕ → ℕ → ℕ → ℕ
 order levels size rank = 16 * (levels * 1000001 + size) + rank
 
 abbrev pub decreases-value : goal.decreases-value
-decreases-value g l = order l.here.now.levels (size-Expr l.e.now) 5
+decreases-value g l = order l.here.now.levels (size-Expr l.e.now) 4
 
 abbrev pub decreases-refer : goal.decreases-refer
-decreases-refer g l = order l.here.now.levels (size-Expr l.e.now) 4
+decreases-refer g l = order l.here.now.levels (size-Expr l.e.now) 5
 
-abbrev pub decreases-refer_list : goal.decreases-refer_list
-decreases-refer_list g l = order l.here.now.levels (most (λ x. size-Expr x) l.items.now) 7
+abbrev pub decreases-name_value : goal.decreases-name_value
+decreases-name_value g l = order l.here.now.levels 0 4
 
-abbrev pub decreases-refer_record : goal.decreases-refer_record
-decreases-refer_record g l = order l.here.now.levels (most (λ x. size-Field x) l.fields.now) 7
+abbrev pub decreases-post_value : goal.decreases-post_value
+decreases-post_value g l = order l.here.now.levels (max (size-Expr l.head.now) (most (λ x. size-Link x) l.links.now)) 7
+
+abbrev pub decreases-chain_value : goal.decreases-chain_value
+decreases-chain_value g l = order l.here.now.levels (max (size-Expr l.first.now) (most (λ x. size-Operand x) l.rest.now)) 6
+
+abbrev pub decreases-list_value : goal.decreases-list_value
+decreases-list_value g l = order l.here.now.levels (most (λ x. size-Expr x) l.items.now) 7
+
+abbrev pub decreases-record_value : goal.decreases-record_value
+decreases-record_value g l = order l.here.now.levels (most (λ x. size-Field x) l.fields.now) 7
 
 abbrev pub decreases-field_values : goal.decreases-field_values
 decreases-field_values g l = order l.here.now.levels (most (λ x. size-Field x) l.fields.now) 6
 
-abbrev pub decreases-refer_template : goal.decreases-refer_template
-decreases-refer_template g l = order l.here.now.levels (most (λ x. size-Expr x) l.holes.now) 7
+abbrev pub decreases-template_value : goal.decreases-template_value
+decreases-template_value g l = order l.here.now.levels (most (λ x. size-Expr x) l.holes.now) 7
 
 abbrev pub decreases-hole_texts : goal.decreases-hole_texts
 decreases-hole_texts g l = order l.here.now.levels (most (λ x. size-Expr x) l.holes.now) 6
 
-abbrev pub decreases-refer_unary : goal.decreases-refer_unary
-decreases-refer_unary g l = order l.here.now.levels (size-Expr l.e.now) 6
-
-abbrev pub decreases-refer_chain : goal.decreases-refer_chain
-decreases-refer_chain g l = order l.here.now.levels (max (size-Expr l.first.now) (most (λ x. size-Operand x) l.rest.now)) 7
-
-abbrev pub decreases-chained : goal.decreases-chained
-decreases-chained g l = order l.here.now.levels (most (λ x. size-Operand x) l.rest.now) 6
+abbrev pub decreases-unary_value : goal.decreases-unary_value
+decreases-unary_value g l = order l.here.now.levels (size-Expr l.e.now) 6
 
 abbrev pub decreases-chain_one : goal.decreases-chain_one
 decreases-chain_one g l = order l.here.now.levels (size-Operand l.operand.now) 5
 
-abbrev pub decreases-refer_cond : goal.decreases-refer_cond
-decreases-refer_cond g l = order l.here.now.levels (max (size-Expr l.condition.now) (max (size-Expr l.then.now) (size-Expr l.otherwise.now))) 6
+abbrev pub decreases-cond_value : goal.decreases-cond_value
+decreases-cond_value g l = order l.here.now.levels (max (size-Expr l.condition.now) (max (size-Expr l.then.now) (size-Expr l.otherwise.now))) 6
 
-abbrev pub decreases-refer_assign : goal.decreases-refer_assign
-decreases-refer_assign g l = order l.here.now.levels (max (size-Expr l.target.now) (size-Expr l.e.now)) 7
+abbrev pub decreases-assign : goal.decreases-assign
+decreases-assign g l = order l.here.now.levels (max (size-Expr l.target.now) (size-Expr l.e.now)) 7
 
 abbrev pub decreases-old_value : goal.decreases-old_value
 decreases-old_value g l = order l.here.now.levels 0 4
 
-abbrev pub decreases-refer_step : goal.decreases-refer_step
-decreases-refer_step g l = order l.here.now.levels (size-Expr l.target.now) 6
+abbrev pub decreases-step : goal.decreases-step
+decreases-step g l = order l.here.now.levels (size-Expr l.target.now) 6
 
-abbrev pub decreases-refer_known : goal.decreases-refer_known
-decreases-refer_known g l = order l.here.now.levels (most (λ x. size-Expr x) l.arguments.now) 7
+abbrev pub decreases-known_value : goal.decreases-known_value
+decreases-known_value g l = order l.here.now.levels (most (λ x. size-Expr x) l.arguments.now) 7
 
-abbrev pub decreases-refer_jsx : goal.decreases-refer_jsx
-decreases-refer_jsx g l = order l.here.now.levels (size-Jsx l.jsx.now) 6
+abbrev pub decreases-jsx_value : goal.decreases-jsx_value
+decreases-jsx_value g l = order l.here.now.levels (size-Jsx l.jsx.now) 6
 
 abbrev pub decreases-refer_post : goal.decreases-refer_post
 decreases-refer_post g l = order l.here.now.levels (max (size-Expr l.head.now) (most (λ x. size-Link x) l.links.now)) 6
@@ -256,11 +260,11 @@ invariant-field_values-loop-field g l =
     → Ran g.C.Code.form l.here.hooked (known l.here) fields_seen (λ p. fields_after (setting l.here p) (fields_seen p l.done) (drop l.field-index l.fields)) (standing (g.C.Code.sources l.code) (g.C.Code.counts l.code) (g.C.Code.asked l.code) l.machine l.scope.names.items (g.H.Watch.stands_for l.host)) r (world (g.C.Code.sources code) (g.C.Code.counts code) (g.C.Code.asked code) left heap scope (g.H.Watch.stands_for host))
     → Ran g.C.Code.form l.here.hooked (known l.here) fields_seen (λ p. fields_in (setting l.here p) l.fields) (standing (g.C.Code.sources l.fn.code) (g.C.Code.counts l.fn.code) (g.C.Code.asked l.fn.code) l.fn.machine l.fn.scope.names.items (g.H.Watch.stands_for l.fn.host)) r (world (g.C.Code.sources code) (g.C.Code.counts code) (g.C.Code.asked code) left heap scope (g.H.Watch.stands_for host))
 
-abbrev pub invariant-chained-loop-operand : goal.invariant-chained-loop-operand
-invariant-chained-loop-operand g l =
+abbrev pub invariant-chain_value-loop-operand : goal.invariant-chain_value-loop-operand
+invariant-chain_value-loop-operand g l =
     (r : Result (Value) Stop) (code : g.row.C.Denot) (left : Left) (heap : Program → List Object) (scope : Program → Fields) (host : g.row.H.Denot)
     → Ran g.C.Code.form l.here.hooked (known l.here) value_seen (λ p. operands_chained (setting l.here p) (drop l.operand-index l.rest) (value_seen p l.v)) (standing (g.C.Code.sources l.code) (g.C.Code.counts l.code) (g.C.Code.asked l.code) l.machine l.scope.names.items (g.H.Watch.stands_for l.host)) r (world (g.C.Code.sources code) (g.C.Code.counts code) (g.C.Code.asked code) left heap scope (g.H.Watch.stands_for host))
-    → Ran g.C.Code.form l.here.hooked (known l.here) value_seen (λ p. operands_chained (setting l.here p) l.rest (value_seen p l.fn.first)) (standing (g.C.Code.sources l.fn.code) (g.C.Code.counts l.fn.code) (g.C.Code.asked l.fn.code) l.fn.machine l.fn.scope.names.items (g.H.Watch.stands_for l.fn.host)) r (world (g.C.Code.sources code) (g.C.Code.counts code) (g.C.Code.asked code) left heap scope (g.H.Watch.stands_for host))
+    → Ran g.C.Code.form l.here.hooked (known l.here) value_seen (λ p. value_in (setting l.here p) (ex.Chain l.first l.rest)) (standing (g.C.Code.sources l.fn.code) (g.C.Code.counts l.fn.code) (g.C.Code.asked l.fn.code) l.fn.machine l.fn.scope.names.items (g.H.Watch.stands_for l.fn.host)) r (world (g.C.Code.sources code) (g.C.Code.counts code) (g.C.Code.asked code) left heap scope (g.H.Watch.stands_for host))
 
 abbrev pub invariant-call_on_each-loop-i : goal.invariant-call_on_each-loop-i
 invariant-call_on_each-loop-i g l =

@@ -1,7 +1,8 @@
 use Rattle.std.specs.String.{string_bytes}
-use Rattle.std.proofs.Common.{◌++◌, ◌∙◌, ap}
+use Rattle.std.proofs.Common.{◌++◌, ◌∙◌, ap, arith}
+use Rattle.qk_meaning.specs.Operators.{short_text}
 use Rattle.std.proofs.lemmas.Option.{MatchOption-at_none}
-use Rattle.qk_eval.proofs.Plain_steps.{all_filled, hole_filled, part_filled, is_none}
+use Rattle.qk_eval.proofs.Plain_steps.{all_filled, long_filled, hole_filled, part_filled, is_none}
 use Rattle.qk_eval.proofs.pieces.filled.Goals as goal
 use Rattle.qk_eval.proofs.pieces.filled.Goals.{in-Some+in_ok-push_str-2, in_default}
 
@@ -21,5 +22,8 @@ loop-i-preserved c =
           ∙ c.loop-i.invariant
     ]
 
+pub returns-then-len-gt-MOST_BYTES : goal.returns-then-len-gt-MOST_BYTES
+returns-then-len-gt-MOST_BYTES c = long_filled (string_bytes c.loop-i.text) _ _ (omega (arith, c.len.ensures)) c.loop-i.invariant
+
 pub returns : goal.returns
-returns c = all_filled (string_bytes c.loop-i.text) c.args.parts.now c.args.holes.now c.loop-i.i c.loop-i-test.false c.loop-i.invariant
+returns c = ap short_text (all_filled (string_bytes c.loop-i.text) c.args.parts.now c.args.holes.now c.loop-i.i c.loop-i-test.false c.loop-i.invariant)

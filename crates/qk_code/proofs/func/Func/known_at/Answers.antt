@@ -1,4 +1,4 @@
-use Rattle.std.proofs.Common.{◌≡◌, ◌∙◌, ap, sym, slice_get, option_copied, unwrap_or, Option, None, List, ℕ}
+use Rattle.std.proofs.Common.{◌≡◌, ◌∙◌, ap, sym, slice_get, option_copied, unwrap_or, Option, None, List}
 use Rattle.std.proofs.lemmas.Option.{unwrap_or-slice_get}
 use Rattle.qk_captures.specs.declared.Captured.{Captured}
 use Rattle.qk_code.proofs.func.Func.known_at.Goals as goal

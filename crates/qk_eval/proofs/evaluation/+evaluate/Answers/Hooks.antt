@@ -10,7 +10,7 @@ use Rattle.qk_eval.specs.Placing.{setting}
 use Rattle.qk_eval.specs.Seeing.{value_seen, values_seen}
 use Rattle.qk_code.proofs.Runs.{ran_lost, ran_memory, ran_known, extends_self, spent_self}
 use Rattle.qk_eval.proofs.No_function.{no_function}
-use Rattle.qk_eval.proofs.Entering.{ran_enter, ran_enter_plain, ran_not_entered, ran_lacking, ran_entering_lost, ran_inside, ran_no_level, ran_stuck}
+use Rattle.qk_eval.proofs.Entering.{ran_enter, ran_enter_plain, ran_not_entered, ran_plain_not_entered, ran_entering_lost, ran_inside, ran_no_level, ran_stuck}
 use Rattle.qk_eval.proofs.Hooking.{ran_unanswered, ran_hook_value, ran_hook_nothing, ran_hook_task, ran_hook_err, ran_task, ran_task_err, ran_tracked, ran_tracked_err, ran_call_tracker, ran_untracked, ran_unentered}
 use Rattle.qk_eval.proofs.Plain_steps.{is_none}
 use Rattle.qk_code.specs.Ran.{Ran}
@@ -77,7 +77,7 @@ pub enter-returns-in_err-func-in-Symbol : goal.enter-returns-in_err-func-in-Symb
 enter-returns-in_err-func-in-Symbol g t c = λ outer. ran_not_entered _ _ c.args.levels (c.args.levels - 1) c.args.mode c.args.running.now c.args.f.now c.args.given.now _ _ (omega (arith, c.if-levels-eq0.false)) (c.take.ensures.had.0 c.if-not-take.false) (c.take.ensures.taken c.if-not-take.false) _ _ _ _ _ c.in_err-func-in-Symbol.field-0.0 (search rules) c.in-Symbol.is c.in_err-func-in-Symbol.ensures.grows c.in_err-func-in-Symbol.ensures.cause c.in_err-func-in-Symbol.ensures.asks
 
 pub enter-returns-in_err-func-in-Plain : goal.enter-returns-in_err-func-in-Plain
-enter-returns-in_err-func-in-Plain g t c = λ outer. ran_lacking _ _ c.args.levels (c.args.levels - 1) c.args.mode c.args.running.now c.args.f.now c.args.given.now _ _ (omega (arith, c.if-levels-eq0.false)) (c.take.ensures.had.0 c.if-not-take.false) (c.take.ensures.taken c.if-not-take.false) _ _ _ _ c.in_err-func-in-Plain.field-0.0 (search rules) c.in_err-func-in-Plain.ensures.kept c.in_err-func-in-Plain.ensures.cause c.in_err-func-in-Plain.ensures.asks
+enter-returns-in_err-func-in-Plain g t c = λ outer. ran_plain_not_entered _ _ c.args.levels (c.args.levels - 1) c.args.mode c.args.running.now c.args.f.now c.args.given.now _ _ (omega (arith, c.if-levels-eq0.false)) (c.take.ensures.had.0 c.if-not-take.false) (c.take.ensures.taken c.if-not-take.false) _ _ _ _ _ _ c.in_err-func-in-Plain.field-0.0 (search rules) c.in-Plain.is c.in_err-func-in-Plain.ensures.kept c.in_err-func-in-Plain.ensures.cause c.in_err-func-in-Plain.ensures.asks
 
 pub enter-returns-then-len-captured : goal.enter-returns-then-len-captured
 enter-returns-then-len-captured g t c = λ outer. ran_entering_lost _ _ c.args.levels (c.args.levels - 1) c.args.mode c.args.running.now c.args.f.now c.args.given.now _ _ (omega (arith, c.if-levels-eq0.false)) (c.take.ensures.had.0 c.if-not-take.false) (c.take.ensures.taken c.if-not-take.false) _ _ _ _ refl c.in_ok-func-in-Plain.ensures.kept c.in_ok-func-in-Plain.ensures.cause.cause

@@ -26,12 +26,6 @@ use Rattle.qk_eval.proofs.Roots.{ran_method, ran_no_method, ran_no_method_err}
 use Rattle.qk_eval.proofs.Calling.{ran_framework_callee}
 use Rattle.qk_eval.proofs.evaluation.+evaluate.Goals as goal
 
-pub refer_post-returns-in_err-r : goal.refer_post-returns-in_err-r
-refer_post-returns-in_err-r g t c = to_post _ _ _ (setting c.args.here.now) _ _ _ c.args.head.now c.args.links.now (ran_err _ _ _ _ _ _ _ _ _ _ _ (search rules) (λ p x. links_add c.args.here.now.func.now c.args.here.now.mode c.args.here.now.running.now c.args.here.now.levels p c.args.links.now x) c.in_err-r.ensures)
-
-pub refer_post-returns : goal.refer_post-returns
-refer_post-returns g t c = to_post _ _ _ (setting c.args.here.now) _ _ _ c.args.head.now c.args.links.now (ran_then _ _ _ _ _ _ _ _ _ _ _ _ c.in_ok-r.ensures c.follow.ensures)
-
 pub follow_name-returns-in_err-object : goal.follow_name-returns-in_err-object
 follow_name-returns-in_err-object g t c = ran_err _ _ _ _ _ _ _ _ _ _ _ (search rules) (λ p x. quiet) c.in_err-object.ensures
 
@@ -175,3 +169,9 @@ member_callee-returns-in_err-v-in-None g t c = λ outer. ran_no_method_err _ _ _
 
 pub member_callee-returns-in_ok-v-in-None : goal.member_callee-returns-in_ok-v-in-None
 member_callee-returns-in_ok-v-in-None g t c = λ outer. ran_no_method _ _ _ (setting c.args.here.now) _ c.args.object c.args.key.now _ _ _ (λ p. refl) (λ names. ap (option_map method_seen) (sym c.in-None.is) ∙ c.method_of.ensures names) (c.in_ok-v-in-None.ensures outer)
+
+pub refer_post-returns-in_err-r : goal.refer_post-returns-in_err-r
+refer_post-returns-in_err-r g t c = to_post _ _ _ (setting c.args.here.now) _ _ _ c.args.head.now c.args.links.now (ran_err _ _ _ _ _ _ _ _ _ _ _ (search rules) (λ p x. links_add c.args.here.now.func.now c.args.here.now.mode c.args.here.now.running.now c.args.here.now.levels p c.args.links.now x) (rw c.get.ensures at c.in_err-r.ensures))
+
+pub refer_post-returns : goal.refer_post-returns
+refer_post-returns g t c = to_post _ _ _ (setting c.args.here.now) _ _ _ c.args.head.now c.args.links.now (ran_then _ _ _ _ _ _ _ _ _ _ _ _ (rw c.get.ensures at c.in_ok-r.ensures) c.follow.ensures)
