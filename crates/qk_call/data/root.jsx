@@ -14,7 +14,7 @@ const table = () => {
   console.log("two\nlines \\");
   const a = [1];
   a[1] = 2;
-  a[3] = 3;
+  return a[1];
 };
 const shown = () => {
   const a = { x: 1, t: "a \"b\"\n", "7": [true, null, undefined] };
