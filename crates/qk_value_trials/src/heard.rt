@@ -7,15 +7,15 @@ use qk_value::{Addr, Value};
 
 /// How many reads and changes were told, and the last console line. It stands for every list, so nothing is claimed of it.
 #[derive(Drop)]
-pub struct Heard {
-    pub reads: u64,
-    pub changes: u64,
-    pub line: Option<Text>,
+pub(crate) struct Heard {
+    pub(crate) reads: u64,
+    pub(crate) changes: u64,
+    pub(crate) line: Option<Text>,
 }
 
 impl Heard {
     /// Nothing was told yet.
-    pub fn new() -> Heard {
+    pub(crate) fn new() -> Heard {
         Heard {
             reads: 0,
             changes: 0,

@@ -4,6 +4,8 @@
 #[cfg(test)]
 mod acts;
 #[cfg(test)]
+mod due;
+#[cfg(test)]
 mod heard;
 #[cfg(test)]
 mod making;

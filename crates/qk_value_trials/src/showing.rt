@@ -8,7 +8,7 @@ use qk_value::{Elem, ElemTag, Fun, FunCode, Value};
 use std::alloc::{AllocError, Global};
 
 /// A value with what it is made of, or the name of a fault.
-pub fn shown(
+pub(crate) fn shown(
     alloc: Global,
     heap: &Heap,
     answer: &Result<Value, Stop>,
@@ -23,7 +23,7 @@ pub fn shown(
 }
 
 /// An object is shown by what it holds.
-pub fn show(to: &mut String, heap: &Heap, v: &Value) -> Result<(), AllocError> {
+pub(crate) fn show(to: &mut String, heap: &Heap, v: &Value) -> Result<(), AllocError> {
     match v {
         Value::List(items) => show_all(to, "list", items.as_slice()),
         Value::Record(fields) => show_fields(to, "record", fields.as_slice()),

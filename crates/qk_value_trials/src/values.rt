@@ -8,7 +8,7 @@ use qk_value::{Addr, Fun, FunCode, Value};
 use std::alloc::{AllocError, Global};
 
 /// Objects to try calls on: `array`, `plain`, `signal` and `computed`, in that order.
-pub fn world(alloc: Global) -> Result<Heap, Stop> {
+pub(crate) fn world(alloc: Global) -> Result<Heap, Stop> {
     let mut heap = Heap::new(alloc);
     make_array(alloc, &mut heap)?;
     make_plain(alloc, &mut heap)?;
@@ -28,7 +28,7 @@ fn make_plain(alloc: Global, heap: &mut Heap) -> Result<Value, Stop> {
 }
 
 /// The values of these words.
-pub fn values(alloc: Global, words: &str) -> Result<Builder<Value>, AllocError> {
+pub(crate) fn values(alloc: Global, words: &str) -> Result<Builder<Value>, AllocError> {
     let mut all = Builder::new(alloc);
     for word in words.split_whitespace() {
         all.push(value(alloc, word)?)?;
@@ -37,7 +37,7 @@ pub fn values(alloc: Global, words: &str) -> Result<Builder<Value>, AllocError> 
 }
 
 /// The value that a word names; a numeral is an integer, and any other word a text.
-pub fn value(alloc: Global, word: &str) -> Result<Value, AllocError> {
+pub(crate) fn value(alloc: Global, word: &str) -> Result<Value, AllocError> {
     match word {
         "undefined" => Ok(Value::Undefined),
         "null" => Ok(Value::Null),
@@ -60,7 +60,7 @@ fn integer_or_text(alloc: Global, word: &str) -> Result<Value, AllocError> {
     }
 }
 
-pub fn text(alloc: Global, t: &str) -> Result<Value, AllocError> {
+pub(crate) fn text(alloc: Global, t: &str) -> Result<Value, AllocError> {
     Ok(Value::Text(Text::from_str(alloc, t)?))
 }
 
@@ -87,7 +87,7 @@ fn function(alloc: Global) -> Result<Fun, AllocError> {
 }
 
 /// Fields of these names, each with its place as its value.
-pub fn fields(alloc: Global, names: &str) -> Result<Vec<(Text, Value)>, AllocError> {
+pub(crate) fn fields(alloc: Global, names: &str) -> Result<Vec<(Text, Value)>, AllocError> {
     let mut all = Vec::new(alloc);
     let mut place: i64 = 0;
     for name in names.split_whitespace() {
