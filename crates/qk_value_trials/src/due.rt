@@ -50,6 +50,10 @@ fn tasks(rt: HostRuntime) -> Result<(), Fail> {
     let mut all = Vec::new(alloc);
     all.push(instance(alloc, 1)?)?;
     all.push(instance(alloc, 2)?)?;
+    let first = TaskId {
+        instance: 1,
+        hook: 0,
+    };
     let second = TaskId {
         instance: 1,
         hook: 1,
@@ -59,7 +63,7 @@ fn tasks(rt: HostRuntime) -> Result<(), Fail> {
     mark(&mut all, &signal(alloc, 2)?);
     assert_eq!(rt; first_due(&all), Some(second));
     assert!(rt; task_at(&all, second).is_some());
-    assert!(rt; task_at(&all, TaskId { instance: 1, hook: 0 }).is_none());
+    assert!(rt; task_at(&all, first).is_none());
     task_ran(&mut all, second, Vec::new(alloc), false);
     assert_eq!(rt; first_due(&all), None);
     mark(&mut all, &signal(alloc, 2)?);
